@@ -1,0 +1,64 @@
+-- Laws of a sum over a range. Assumes nothing.
+use mathlib.Core.Path.{_≡_, refl, sym, ap, ap₂, _∙_}
+use mathlib.Core.Logic.{_≢_}
+use Prim.Native.Nat.{ℕ, zero, suc, _+_, _*_, _<_}
+use native.Mathlib.Nat.{not-suc-le-zero, add-zero, add-suc, zero-mul, suc-mul}
+use native.Mathlib.Decide.{ℕ-discrete}
+use native.Mathlib.Omega.{arith}
+use Rattle.complex.specs.declared.Complex.{Complex}
+use Rattle.complex.specs.Arithmetic.{𝟎, _⊕_, _⊗_, conj, Σ<}
+use Rattle.complex.proofs.Ring.{sums, ⊕-assoc, ⊕-𝟎, 𝟎-⊕, ⊗-𝟎, ⊗-⊕, ⊗-comm, conj-⊕}
+
+pub Σ-𝟎 : (n : ℕ) → Σ< n (λ i. 𝟎) ≡ 𝟎
+unfolding Σ<
+Σ-𝟎 zero = refl
+Σ-𝟎 (suc n) = rw (Σ-𝟎 n, ⊕-𝟎)
+
+-- equal terms, equal sums
+pub Σ-cong : (n : ℕ) (f g : ℕ → Complex) → ((i : ℕ) → i < n → f i ≡ g i) → Σ< n f ≡ Σ< n g
+unfolding Σ<
+Σ-cong zero f g h = refl
+Σ-cong (suc n) f g h = ap₂ _⊕_ (Σ-cong n f g (λ i l. h i (omega arith))) (h n (omega arith))
+
+pub Σ-⊕ : (n : ℕ) (f g : ℕ → Complex) → Σ< n (λ i. f i ⊕ g i) ≡ Σ< n f ⊕ Σ< n g
+unfolding Σ<
+Σ-⊕ zero f g = sym (⊕-𝟎 𝟎)
+Σ-⊕ (suc n) f g = rw (Σ-⊕ n f g) (simp sums)
+
+-- a factor of every term
+pub ⊗-Σ : (n : ℕ) (f : ℕ → Complex) (x : Complex) → x ⊗ Σ< n f ≡ Σ< n (λ i. x ⊗ f i)
+unfolding Σ<
+⊗-Σ zero f x = ⊗-𝟎 x
+⊗-Σ (suc n) f x = ⊗-⊕ x (Σ< n f) (f n) ∙ ap (λ (t : Complex). t ⊕ x ⊗ f n) (⊗-Σ n f x)
+
+pub conj-Σ : (n : ℕ) (f : ℕ → Complex) → conj (Σ< n f) ≡ Σ< n (λ i. conj (f i))
+unfolding Σ< 𝟎 conj
+conj-Σ zero f = refl
+conj-Σ (suc n) f = conj-⊕ (Σ< n f) (f n) ∙ ap (λ (t : Complex). t ⊕ conj (f n)) (conj-Σ n f)
+
+-- two sums change places
+pub Σ-swap : (m n : ℕ) (f : ℕ → ℕ → Complex) → Σ< m (λ i. Σ< n (λ j. f i j)) ≡ Σ< n (λ j. Σ< m (λ i. f i j))
+unfolding Σ<
+Σ-swap zero n f = sym (Σ-𝟎 n)
+Σ-swap (suc m) n f = rw (Σ-swap m n f) (sym (Σ-⊕ n (λ j. Σ< m (λ i. f i j)) (f m)))
+
+-- every term but one is 0
+pub Σ-one : (n : ℕ) (f : ℕ → Complex) (k : ℕ) → k < n → ((i : ℕ) → i < n → i ≢ k → f i ≡ 𝟎) → Σ< n f ≡ f k
+unfolding Σ<
+Σ-one zero f k l h = absurd (not-suc-le-zero l)
+Σ-one (suc n) f k l h = pick (ℕ-discrete n k) (λ m. Σ-one n f k m (λ i m d. h i (omega arith) d))
+  where
+    pick : Dec (n ≡ k) → (k < n → Σ< n f ≡ f k) → Σ< n f ⊕ f n ≡ f k
+    pick (yes e) r = rw (Σ-cong n f (λ i. 𝟎) (λ i m. h i (omega arith) (omega arith)), Σ-𝟎, 𝟎-⊕, e)
+    pick (no e) r = rw (h n (omega arith) e, ⊕-𝟎) (r (omega arith))
+
+-- a sum in two parts, and in m parts of n terms
+pub Σ-+ : (m n : ℕ) (f : ℕ → Complex) → Σ< (m + n) f ≡ Σ< m f ⊕ Σ< n (λ i. f (m + i))
+unfolding Σ<
+Σ-+ m zero f = rw (add-zero, ⊕-𝟎)
+Σ-+ m (suc n) f = rw (add-suc, Σ-+ m n f) (⊕-assoc _ _ _)
+
+pub Σ-blocks : (m n : ℕ) (f : ℕ → Complex) → Σ< (m * n) f ≡ Σ< m (λ r. Σ< n (λ i. f (r * n + i)))
+unfolding Σ<
+Σ-blocks zero n f = rw zero-mul
+Σ-blocks (suc m) n f = rw (suc-mul, Σ-+ (m * n) n f, Σ-blocks m n f)

@@ -1,0 +1,52 @@
+// Whole-number complex values, 32 bits a component, and the operations that the code rules need.
+ghost use mathlib.Core.Path.{_≡_};
+ghost use lib.IntN.{pos, negℤ};
+ghost use Rattle.complex.specs.Arithmetic.{_+j_, _⊕_, _⊗_, real, j^};
+ghost use Rattle.complex.specs.Fits.{Fits32};
+
+pub struct Complex {
+    pub re: i32,
+    pub im: i32,
+}
+
+impl Complex {
+    // The sum, where its components fit.
+    pub fn plus(self, other: Complex) -> Complex
+        requires { ⌜ Fits32 (self ⊕ other) ⌝ }
+        ensures { λ r. ⌜ r ≡ self ⊕ other ⌝ }
+    {
+        Complex {
+            re: self.re + other.re,
+            im: self.im + other.im,
+        }
+    }
+
+    // Times j to the power n: a swap and a change of sign, where the negatives fit.
+    pub fn rotated(self, n: u32) -> Complex
+        requires { ⌜ Fits32 (negℤ (self .re) +j negℤ (self .im)) ⌝ }
+        ensures { λ r. ⌜ r ≡ j^ n ⊗ self ⌝ }
+    {
+        match n % 4 {
+            0 => self,
+            1 => Complex {
+                re: -self.im,
+                im: self.re,
+            },
+            2 => Complex {
+                re: -self.re,
+                im: -self.im,
+            },
+            _ => Complex {
+                re: self.im,
+                im: -self.re,
+            },
+        }
+    }
+}
+
+// x times 1 + j.
+pub fn diagonal(x: i32) -> Complex
+    ensures { λ r. ⌜ r ≡ real x ⊗ (pos 1 +j pos 1) ⌝ }
+{
+    Complex { re: x, im: x }
+}
