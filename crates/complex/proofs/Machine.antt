@@ -20,3 +20,9 @@ module _ {w : Width} {x : ℤ} (f : SFits w x) where
 
     pub add-gives : SFits w (x +ℤ y) → toZ w (ofZ w (toZ w (ofZ w x) +ℤ toZ w (ofZ w y))) ≡ x +ℤ y
     add-gives h = toZ-ofZ (add-asks h) ∙ rw (toZ-ofZ f, toZ-ofZ g)
+
+    pub mul-asks : SFits w (x *ℤ y) → SFits w (toZ w (ofZ w x) *ℤ toZ w (ofZ w y))
+    mul-asks h = rw (toZ-ofZ f, toZ-ofZ g) h
+
+    pub mul-gives : SFits w (x *ℤ y) → toZ w (ofZ w (toZ w (ofZ w x) *ℤ toZ w (ofZ w y))) ≡ x *ℤ y
+    mul-gives h = toZ-ofZ (mul-asks h) ∙ rw (toZ-ofZ f, toZ-ofZ g)

@@ -1,0 +1,5 @@
+-- The laws of the code rules, for the proofs of this crate and of those above it.
+pub mod Tests
+pub mod Rows
+pub mod Leaves
+pub mod Parts

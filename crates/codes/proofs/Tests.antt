@@ -1,0 +1,104 @@
+-- A rule over finitely many cases is one test that antt computes, and one law that turns it into the rule at each case. Assumes nothing.
+use mathlib.Core.Path.{_≡_, refl, sym, ap, subst, _∙_}
+use mathlib.Core.Bool.{Bool, true, false, _&&_, cond}
+use mathlib.Core.List.{List, [], _∷_}
+use Prim.Native.Nat.{ℕ, zero, suc, _+_, _≤_, _<_}
+use native.Mathlib.Nat.{not-suc-le-zero}
+use native.Mathlib.Decide.{ℕ-discrete}
+use native.Mathlib.Omega.{arith}
+use borrow.Author.Tests.{eq-eqb, ne-eqb}
+use lib.Dec.{T, eqb, eqb→eq, ltb, ltb→lt}
+use mir.Facts.{and-yes}
+use lib.IntN.{ℤ, pos, negsuc}
+use lib.ListN.{getD, length}
+use Rattle.codes.specs.Matches.{NoneOf-after, NoneOf, from}
+use Rattle.codes.specs.Tree.{among}
+
+pub and-false : (t : Bool) → (t && false) ≡ false
+and-false true = refl
+and-false false = refl
+
+-- the test passes at each number below n
+unfoldable pub each : ℕ → (ℕ → Bool) → Bool
+each zero f = true
+each (suc n) f = cond (f n) (each n f) false
+
+both-left : (s t : Bool) → T (cond s t false) → T s
+both-left true t h = tt
+both-left false t h = h
+
+both-right : (s t : Bool) → T (cond s t false) → T t
+both-right true t h = h
+both-right false t h = absurd h
+
+pub each-at : (n : ℕ) (f : ℕ → Bool) → T (each n f) → (k : ℕ) → k < n → T (f k)
+unfolding each
+each-at zero f t k l = absurd (not-suc-le-zero l)
+each-at (suc n) f t k l = pick (ℕ-discrete n k) (λ m. each-at n f (both-right (f n) (each n f) t) k m)
+  where
+    pick : Dec (n ≡ k) → (k < n → T (f k)) → T (f k)
+    pick (yes e) r = subst (λ (m : ℕ). T (f m)) e (both-left (f n) (each n f) t)
+    pick (no e) r = r (omega arith)
+
+-- two whole numbers are equal
+unfoldable pub same : ℤ → ℤ → Bool
+same (pos m) (pos n) = eqb m n
+same (negsuc m) (negsuc n) = eqb m n
+same (pos m) (negsuc n) = false
+same (negsuc m) (pos n) = false
+
+pub same→eq : (x y : ℤ) → T (same x y) → x ≡ y
+unfolding same
+same→eq (pos m) (pos n) t = ap pos (eqb→eq m n t)
+same→eq (negsuc m) (negsuc n) t = ap negsuc (eqb→eq m n t)
+same→eq (pos m) (negsuc n) t = absurd t
+same→eq (negsuc m) (pos n) t = absurd t
+
+-- ---- past the last arm of a `match`, and past the end of a list
+none-of-after : (A : Type 0) (ks : List ℕ) (x : ℕ) → NoneOf-after A ks x → A × (among x ks ≡ false)
+none-of-after A [] x h = (h, refl)
+none-of-after A (k ∷ ks) x h =
+    let r = none-of-after (A × (x ≡ k → ⊥)) ks x h in
+    (r .0 .0, rw (ne-eqb x k (r .0 .1)) (r .1))
+
+pub none-of : (ks : List ℕ) (x : ℕ) → NoneOf ks x → among x ks ≡ false
+none-of ks x h = none-of-after (Unit {0}) ks x h .1
+
+past-from : (k n x : ℕ) → k ≤ x → among x (from k n) ≡ false → k + n ≤ x
+past-from k zero x h e = omega arith
+past-from k (suc n) x h e = go (ℕ-discrete x k) (past-from (suc k) n x)
+  where
+    go : Dec (x ≡ k) → (suc k ≤ x → among x (from (suc k) n) ≡ false → suc k + n ≤ x) → k + suc n ≤ x
+    go (yes p) r = let z : true ≡ false = sym (rw (eq-eqb x k p)) ∙ e in absurd (subst T z tt)
+    go (no p) r = let g : suc k + n ≤ x = r (omega arith) (rw (ne-eqb x k p) at e) in omega arith
+
+-- the last arm after the arms 0, 1, .., n - 1
+pub none-below : (n x : ℕ) → NoneOf (from 0 n) x → n ≤ x
+none-below n x h = let r : 0 + n ≤ x = past-from 0 n x (omega arith) (none-of (from 0 n) x h) in omega arith
+
+pub past-end : {A : Type 0} (l : List A) (d : A) (n : ℕ) → length l ≤ n → getD l n d ≡ d
+past-end [] d n h = refl
+past-end (x ∷ l) d zero h = absurd (omega arith)
+past-end (x ∷ l) d (suc n) h = past-end l d n (omega arith)
+
+-- ---- a number that is one of a list's
+pub T-true : (t : Bool) → T t → t ≡ true
+T-true true h = refl
+T-true false h = absurd h
+
+-- a number of a list whose numbers are below k is below k
+unfoldable pub all-below : ℕ → List ℕ → Bool
+all-below k [] = true
+all-below k (x ∷ xs) = ltb x k && all-below k xs
+
+pub among-below : (k n : ℕ) (xs : List ℕ) → T (all-below k xs) → T (among n xs) → n < k
+unfolding all-below
+among-below k n [] t u = absurd u
+among-below k n (x ∷ xs) t u = go (ℕ-discrete n x) (among-below k n xs)
+  where
+    both : T (ltb x k) × T (all-below k xs)
+    both = and-yes (ltb x k) (all-below k xs) t
+
+    go : Dec (n ≡ x) → (T (all-below k xs) → T (among n xs) → n < k) → n < k
+    go (yes e) r = let h : x < k = ltb→lt x k (both .0) in omega arith
+    go (no e) r = r (both .1) (rw (ne-eqb n x e) at u)

@@ -1,0 +1,51 @@
+-- `primary` meets its contract: the sign of the part times the element of a, on the diagonal. Assumes nothing.
+use mathlib.Core.Path.{_≡_, sym, ap, ap₂, _∙_, subst}
+use Prim.Native.Nat.{_/_, _%_}
+use borrow.Author.Needs.{needs}
+use lib.IntN.{ℤ, pos, _*ℤ_}
+use mir.Syntax.{w32}
+use mir.Val.{SFits}
+use Rattle.complex.specs.Arithmetic.{_+j_, real, _⊗_}
+use Rattle.complex.proofs.Machine.{mul-asks, mul-gives}
+use Rattle.complex.proofs.Sizes.{Within, within-mul, fits-within}
+use Rattle.codes.specs.Signs.{_at_, sign-bit}
+use Rattle.codes.specs.SyncCodes.{a, a-signs, repeated, Cp}
+use Rattle.codes.proofs.Tests.{each, same}
+use Rattle.codes.proofs.Rows.{reads-back, row-within}
+use Rattle.codes.proofs.sync.primary.Statement.{statement}
+use Rattle.codes.proofs.sync.primary.Tie as tie
+
+product-fits : (c : tie.After-a-sign) → SFits w32 (c .before .a-repeat .result *ℤ c .a-sign .result)
+unfolding reads-back each same sign-bit _at_
+product-fits c =
+    let n = c .before .before .args .n in
+    let s : Within 1 (c .before .a-repeat .result) = subst (Within 1) (sym (c .before .a-repeat .ensures)) (row-within a-signs tt (n / 16)) in
+    let t : Within 1 (c .a-sign .result) = subst (Within 1) (sym (c .a-sign .ensures)) (row-within a tt (n % 16)) in
+    fits-within (within-mul s t) tt
+
+a-repeat-requires : tie.Need-a-repeat-requires
+a-repeat-requires c κs = search needs
+
+a-sign-requires : tie.Need-a-sign-requires
+a-sign-requires c κs = search needs
+
+mul-diagonal : tie.Need-mul-diagonal
+mul-diagonal c =
+    let f : SFits w32 (c .before .a-repeat .result) = search needs in
+    let g : SFits w32 (c .a-sign .result) = search needs in
+    mul-asks f g (product-fits c)
+
+diagonal-requires : tie.Need-diagonal-requires
+diagonal-requires c κs = search needs
+
+returns : tie.Need-returns
+unfolding Cp repeated
+returns c =
+    let d = c .before in
+    let f : SFits w32 (d .before .a-repeat .result) = search needs in
+    let g : SFits w32 (d .a-sign .result) = search needs in
+    c .diagonal .ensures
+    ∙ ap (λ (x : ℤ). real x ⊗ (pos 1 +j pos 1)) (mul-gives f g (product-fits d) ∙ ap₂ _*ℤ_ (d .before .a-repeat .ensures) (d .a-sign .ensures))
+
+pub primary-spec : {M : Type 1} → statement M
+primary-spec = tie.close (tie.spec a-repeat-requires a-sign-requires mul-diagonal diagonal-requires returns)

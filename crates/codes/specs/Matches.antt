@@ -1,0 +1,18 @@
+-- What the last arm of a `match` on x knows.
+use mathlib.Core.Path.{_≡_}
+use mathlib.Core.List.{List, [], _∷_}
+use Prim.Native.Nat.{ℕ, zero, suc}
+
+-- beside A, x is none of the numbers
+abbrev pub NoneOf-after : Type 0 → List ℕ → ℕ → Type 0
+NoneOf-after A [] x = A
+NoneOf-after A (k ∷ ks) x = NoneOf-after (A × (x ≡ k → ⊥)) ks x
+
+-- x is none of the numbers, as the arms for them leave it
+abbrev pub NoneOf : List ℕ → ℕ → Type 0
+NoneOf ks x = NoneOf-after (Unit {0}) ks x
+
+-- the n numbers from k on
+abbrev pub from : ℕ → ℕ → List ℕ
+from k zero = []
+from k (suc n) = k ∷ from (suc k) n

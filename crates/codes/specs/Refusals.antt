@@ -1,0 +1,24 @@
+-- A call's answer, and the list of its refusals in document 01's order.
+use Prim.Native.Nat.{ℕ}
+use mathlib.Core.List.{List, [], _∷_}
+use mathlib.Core.Bool.{Bool, cond}
+
+-- a refusal is document 01's number, alone
+pub data Answer (A : Type 0) : Type 0 where
+  refused : ℕ → Answer A
+  gives : A → Answer A
+
+-- a refusal's number and the condition under which it is given
+pub record Refusal : Type 0 where
+  pub number : ℕ
+  pub condition : Bool
+
+infix 70 _if_
+abbrev pub _if_ : ℕ → Bool → Refusal
+n if t = record { number = n; condition = t }
+
+-- "a refusal number is given if its condition holds and no earlier one in the call's list does, else never"
+infix 20 _otherwise_
+abbrev pub _otherwise_ : {A : Type 0} → List Refusal → A → Answer A
+[] otherwise a = gives a
+(r ∷ rs) otherwise a = cond (r .condition) (refused (r .number)) (rs otherwise a)

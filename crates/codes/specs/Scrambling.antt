@@ -1,0 +1,25 @@
+-- Document 01, "Codes and their tree" (TS 25.223, 6.3 and Annex A).
+use lib.IntN.{ℤ}
+use Prim.Native.Nat.{ℕ, _-_, _/_}
+use mathlib.Core.List.{List}
+use lib.ListN.{getD}
+use Rattle.complex.specs.declared.Complex.{Complex}
+use Rattle.complex.specs.Arithmetic.{real, _⊗_, j^}
+use Rattle.codes.specs.Signs.{signs, _at_}
+use Rattle.codes.specs.AnnexA.{annex-A}
+
+-- Scrambling code p, for cell parameter p from 0 to 127, is row p of Annex A, v1 to v16; empty for any other p.
+abbrev pub row : ℕ → List ℤ
+row p = signs (getD annex-A p "")
+
+-- vi, i from 1
+unfoldable pub v : ℕ → ℕ → ℤ
+v p i = row p at (i - 1)
+
+-- Its complex element i is j^i times vi, i from 1.
+unfoldable pub scrambling : ℕ → ℕ → Complex
+scrambling p i = j^ i ⊗ real (v p i)
+
+-- The code group of p is p div 4.
+abbrev pub code-group : ℕ → ℕ
+code-group p = p / 4

@@ -1,0 +1,168 @@
+// The code rules of TS 25.223 V3.3.0 as a unit of their own: channelisation codes, scrambling codes, sync codes.
+// The eight calls here take any numbers and refuse by document 01's number. The modules hold the functions that
+// the crates above call for each chip or block: they are total, and give 0 outside their range.
+ghost use mathlib.Core.Path.{_≡_};
+ghost use Rattle.codes.specs.Calls.{element-call, related-call, code-group-call, scrambling-call, primary-call, secondary-call, allocation-call, burst-start-call, told-element, told-related, told-group, told-chip, told-allocation, told-start};
+use complex::Complex;
+
+pub mod burst;
+pub mod scrambling;
+pub mod signs;
+pub mod sync;
+pub mod tree;
+
+// Named as in the standard's mapping table (table 6): a cell parameter, 0 to 127, and a code group, 0 to 31.
+pub struct CellParameter(pub u32);
+
+pub struct CodeGroup(pub u32);
+
+// A secondary sync code's number with the unit that modulates it.
+pub struct ModulatedCode {
+    pub code: u32,
+    pub unit: Complex,
+}
+
+// The three codes that a code group sends beside the primary code: the pair, then the marker.
+pub struct Allocated {
+    pub first: ModulatedCode,
+    pub second: ModulatedCode,
+    pub marker: ModulatedCode,
+}
+
+pub enum ElementAnswer {
+    Element(i32),
+    Refused(u32),
+}
+
+pub enum RelatedAnswer {
+    Related(bool),
+    Refused(u32),
+}
+
+pub enum GroupAnswer {
+    Group(CodeGroup),
+    Refused(u32),
+}
+
+pub enum ChipAnswer {
+    Chip(Complex),
+    Refused(u32),
+}
+
+pub enum AllocationAnswer {
+    Codes(Allocated),
+    Refused(u32),
+}
+
+pub enum StartAnswer {
+    Start(u32),
+    Refused(u32),
+}
+
+// Element `chip`, from 0, of channelisation code (q, k): 1 or -1. Refuses 3 bad q; 4 k not below q; 16 chip past the end.
+pub fn element(q: u32, k: u32, chip: u32) -> ElementAnswer
+    ensures { λ r. ⌜ told-element r ≡ element-call q k chip ⌝ }
+{
+    if tree::width(q) == 0 {
+        return ElementAnswer::Refused(3);
+    }
+    if q <= k {
+        return ElementAnswer::Refused(4);
+    }
+    if q <= chip {
+        return ElementAnswer::Refused(16);
+    }
+    ElementAnswer::Element(tree::code_sign(q, k, chip))
+}
+
+// Whether codes (q, k) and (p, l) are related. Refuses 3 and 4 of the first, then 3 and 4 of the second.
+pub fn related(q: u32, k: u32, p: u32, l: u32) -> RelatedAnswer
+    ensures { λ r. ⌜ told-related r ≡ related-call q k p l ⌝ }
+{
+    if tree::width(q) == 0 {
+        return RelatedAnswer::Refused(3);
+    }
+    if q <= k {
+        return RelatedAnswer::Refused(4);
+    }
+    if tree::width(p) == 0 {
+        return RelatedAnswer::Refused(3);
+    }
+    if p <= l {
+        return RelatedAnswer::Refused(4);
+    }
+    RelatedAnswer::Related(tree::is_related(q, k, p, l))
+}
+
+// The code group of a cell parameter. Refuses 1 parameter above 127.
+pub fn code_group(p: CellParameter) -> GroupAnswer
+    ensures { λ r. ⌜ told-group r ≡ code-group-call (p .0) ⌝ }
+{
+    if 128 <= p.0 {
+        return GroupAnswer::Refused(1);
+    }
+    GroupAnswer::Group(scrambling::group_of(p))
+}
+
+// Chip `chip`, from 0, of a cell parameter's scrambling code. Refuses 1 parameter above 127; 16 chip past the end.
+pub fn scrambling_chip(p: CellParameter, chip: u32) -> ChipAnswer
+    ensures { λ r. ⌜ told-chip r ≡ scrambling-call (p .0) chip ⌝ }
+{
+    if 128 <= p.0 {
+        return ChipAnswer::Refused(1);
+    }
+    if 16 <= chip {
+        return ChipAnswer::Refused(16);
+    }
+    ChipAnswer::Chip(scrambling::element(p, chip))
+}
+
+// Chip `chip`, from 0, of the primary sync code. Refuses 16 chip past the end.
+pub fn primary_chip(chip: u32) -> ChipAnswer
+    ensures { λ r. ⌜ told-chip r ≡ primary-call chip ⌝ }
+{
+    if 256 <= chip {
+        return ChipAnswer::Refused(16);
+    }
+    ChipAnswer::Chip(sync::primary(chip))
+}
+
+// Chip `chip`, from 0, of secondary sync code `i`. Refuses 16 for a number not listed or a chip past the end.
+pub fn secondary_chip(i: u32, chip: u32) -> ChipAnswer
+    ensures { λ r. ⌜ told-chip r ≡ secondary-call i chip ⌝ }
+{
+    if !sync::is_code(i) {
+        return ChipAnswer::Refused(16);
+    }
+    if 256 <= chip {
+        return ChipAnswer::Refused(16);
+    }
+    ChipAnswer::Chip(sync::secondary(i, chip))
+}
+
+// The three codes that a group sends in a frame, 1 or 2, and a half, 0 for slot k and 1 for slot k+8.
+// Refuses 1 group above 31; 14 case not 1 or 2; 15 frame not 1 or 2, half above 1, or half 1 in case 1.
+pub fn allocation(case: u32, group: CodeGroup, frame: u32, half: u32) -> AllocationAnswer
+    ensures { λ r. ⌜ told-allocation r ≡ allocation-call case (group .0) frame half ⌝ }
+{
+    if 32 <= group.0 {
+        return AllocationAnswer::Refused(1);
+    }
+    if !burst::one_or_two(case) {
+        return AllocationAnswer::Refused(14);
+    }
+    if !burst::is_occasion(case, frame, half) {
+        return AllocationAnswer::Refused(15);
+    }
+    AllocationAnswer::Codes(burst::allocated(case, group, frame, half))
+}
+
+// The chip of the slot at which a group's burst starts. Refuses 1 group above 31.
+pub fn burst_start(group: CodeGroup) -> StartAnswer
+    ensures { λ r. ⌜ told-start r ≡ burst-start-call (group .0) ⌝ }
+{
+    if 32 <= group.0 {
+        return StartAnswer::Refused(1);
+    }
+    StartAnswer::Start(burst::start_of(group))
+}
