@@ -3,7 +3,7 @@ ghost use mathlib.Core.Path.{_≡_};
 ghost use mathlib.Core.Bool.{cond};
 ghost use Prim.Native.Nat.{_<_};
 ghost use lib.Dec.{leb};
-ghost use Rattle.complex.specs.Arithmetic.{real, 𝐣, _⊗_};
+ghost use Rattle.complex.specs.Arithmetic.{real, 𝟏, 𝐣, _⊗_};
 ghost use Rattle.codes.specs.Signs.{minus-if};
 ghost use Rattle.codes.specs.Allocation.{allocation, case-1, case-2, code-set, is-occasion, one-or-two, row as row-of, signed, silent, with-unit};
 ghost use Rattle.codes.specs.Burst.{burst-start};
@@ -58,37 +58,33 @@ fn code_set(n: u32) -> CodeSet
     }
 }
 
-// A code with unit 1, or -1 where negative.
-fn with_one(code: u32, negative: bool) -> ModulatedCode
-    ensures { λ r. ⌜ r ≡ with-unit code (real (minus-if negative)) ⌝ }
+// The unit 1, or j where imaginary; its negative where negative.
+fn unit(imaginary: bool, negative: bool) -> Complex
+    ensures { λ r. ⌜ r ≡ real (minus-if negative) ⊗ cond imaginary 𝐣 𝟏 ⌝ }
 {
-    if negative {
-        ModulatedCode {
-            code,
-            unit: Complex { re: -1, im: 0 },
+    if imaginary {
+        if negative {
+            Complex { re: 0, im: -1 }
+        } else {
+            Complex { re: 0, im: 1 }
         }
     } else {
-        ModulatedCode {
-            code,
-            unit: Complex { re: 1, im: 0 },
+        if negative {
+            Complex { re: -1, im: 0 }
+        } else {
+            Complex { re: 1, im: 0 }
         }
     }
 }
 
-// A code with unit j, or -j where negative.
-fn with_j(code: u32, negative: bool) -> ModulatedCode
-    ensures { λ r. ⌜ r ≡ with-unit code (real (minus-if negative) ⊗ 𝐣) ⌝ }
+// A pair of codes and a marker, each with its unit.
+fn three(a: u32, u: Complex, b: u32, v: Complex, d: u32, w: Complex) -> Allocated
+    ensures { λ r. ⌜ r ≡ record { first = with-unit a u; second = with-unit b v; marker = with-unit d w } ⌝ }
 {
-    if negative {
-        ModulatedCode {
-            code,
-            unit: Complex { re: 0, im: -1 },
-        }
-    } else {
-        ModulatedCode {
-            code,
-            unit: Complex { re: 0, im: 1 },
-        }
+    Allocated {
+        first: ModulatedCode { code: a, unit: u },
+        second: ModulatedCode { code: b, unit: v },
+        marker: ModulatedCode { code: d, unit: w },
     }
 }
 
@@ -97,27 +93,14 @@ fn arranged(row: u32, set: CodeSet, first: bool, second: bool, marker: bool) -> 
     requires { ⌜ row < 4 ⌝ }
     ensures { λ r. ⌜ r ≡ signed (row-of row set) (minus-if first) (minus-if second) (minus-if marker) ⌝ }
 {
+    let u = unit(row != 0, first);
+    let v = unit(row != 0, second);
+    let w = unit(false, marker);
     match row {
-        0 => Allocated {
-            first: with_one(set.a, first),
-            second: with_one(set.b, second),
-            marker: with_one(set.d, marker),
-        },
-        1 => Allocated {
-            first: with_j(set.a, first),
-            second: with_j(set.b, second),
-            marker: with_one(set.d, marker),
-        },
-        2 => Allocated {
-            first: with_j(set.a, first),
-            second: with_j(set.d, second),
-            marker: with_one(set.b, marker),
-        },
-        _ => Allocated {
-            first: with_j(set.b, first),
-            second: with_j(set.d, second),
-            marker: with_one(set.a, marker),
-        },
+        0 => three(set.a, u, set.b, v, set.d, w),
+        1 => three(set.a, u, set.b, v, set.d, w),
+        2 => three(set.a, u, set.d, v, set.b, w),
+        _ => three(set.b, u, set.d, v, set.a, w),
     }
 }
 

@@ -105,16 +105,16 @@ pub fn code_group(p: CellParameter) -> GroupAnswer
 }
 
 // Chip `chip`, from 0, of a cell parameter's scrambling code. Refuses 1 parameter above 127; 16 chip past the end.
-pub fn scrambling_chip(p: CellParameter, chip: u32) -> ChipAnswer
-    ensures { λ r. ⌜ told-chip r ≡ scrambling-call (p .0) chip ⌝ }
+pub fn scrambling_chip(cell: CellParameter, chip: u32) -> ChipAnswer
+    ensures { λ r. ⌜ told-chip r ≡ scrambling-call (cell .0) chip ⌝ }
 {
-    if 128 <= p.0 {
+    if 128 <= cell.0 {
         return ChipAnswer::Refused(1);
     }
     if 16 <= chip {
         return ChipAnswer::Refused(16);
     }
-    ChipAnswer::Chip(scrambling::element(p, chip))
+    ChipAnswer::Chip(scrambling::element(cell, chip))
 }
 
 // Chip `chip`, from 0, of the primary sync code. Refuses 16 chip past the end.
@@ -127,17 +127,17 @@ pub fn primary_chip(chip: u32) -> ChipAnswer
     ChipAnswer::Chip(sync::primary(chip))
 }
 
-// Chip `chip`, from 0, of secondary sync code `i`. Refuses 16 for a number not listed or a chip past the end.
-pub fn secondary_chip(i: u32, chip: u32) -> ChipAnswer
-    ensures { λ r. ⌜ told-chip r ≡ secondary-call i chip ⌝ }
+// Chip `n`, from 0, of secondary sync code `number`. Refuses 16 for a number not listed or a chip past the end.
+pub fn secondary_chip(number: u32, n: u32) -> ChipAnswer
+    ensures { λ r. ⌜ told-chip r ≡ secondary-call number n ⌝ }
 {
-    if !sync::is_code(i) {
+    if !sync::is_code(number) {
         return ChipAnswer::Refused(16);
     }
-    if 256 <= chip {
+    if 256 <= n {
         return ChipAnswer::Refused(16);
     }
-    ChipAnswer::Chip(sync::secondary(i, chip))
+    ChipAnswer::Chip(sync::secondary(number, n))
 }
 
 // The three codes that a group sends in a frame, 1 or 2, and a half, 0 for slot k and 1 for slot k+8.
@@ -158,11 +158,11 @@ pub fn allocation(case: u32, group: CodeGroup, frame: u32, half: u32) -> Allocat
 }
 
 // The chip of the slot at which a group's burst starts. Refuses 1 group above 31.
-pub fn burst_start(group: CodeGroup) -> StartAnswer
-    ensures { λ r. ⌜ told-start r ≡ burst-start-call (group .0) ⌝ }
+pub fn burst_start(g: CodeGroup) -> StartAnswer
+    ensures { λ r. ⌜ told-start r ≡ burst-start-call (g .0) ⌝ }
 {
-    if 32 <= group.0 {
+    if 32 <= g.0 {
         return StartAnswer::Refused(1);
     }
-    StartAnswer::Start(burst::start_of(group))
+    StartAnswer::Start(burst::start_of(g))
 }

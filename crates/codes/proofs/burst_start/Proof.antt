@@ -7,15 +7,15 @@ use Rattle.codes.proofs.burst_start.Statement.{statement}
 use Rattle.codes.proofs.burst_start.Tie as tie
 
 returns : tie.Need-returns
-returns c = rw (le-leb 32 (c .before .before .args .group .0) (c .if1 .taken))
+returns c = rw (le-leb 32 (c .before .before .args .g .0) (c .if1 .taken))
 
 start-of-requires : tie.Need-start-of-requires
 start-of-requires c κs = search needs
 
 returns-2 : tie.Need-returns-2
 returns-2 c =
-    let g = lt-leb 32 (c .before .before .before .args .group .0) (c .before .if1 .left) in
-    rw g (ap gives (rw g at (c .start-of .ensures)))
+    let l = lt-leb 32 (c .before .before .before .args .g .0) (c .before .if1 .left) in
+    rw l (ap gives (rw l at (c .start-of .ensures)))
 
 pub burst-start-spec : {M : Type 1} → statement M
 burst-start-spec = tie.close (tie.spec returns start-of-requires returns-2)
