@@ -10,8 +10,9 @@ use borrow.Author.Tests.{lt-ltb, le-ltb}
 use lib.Dec.{T, eqb, eqb→eq, leb, leb→le, ltb, ltb→lt}
 use lib.IntN.{ℤ, pos}
 use lib.ListN.{getD, length}
-use Rattle.codes.specs.Signs.{_at_, packed, sign-bit}
-use Rattle.codes.specs.Tree.{among, factors, is-factor, is-code, code, element, at-or-above, related, width, leaf-rows, overlap}
+use Rattle.codes.specs.Signs.{_at_}
+use Rattle.codes.specs.Held.{packed, sign-bit, leaf-rows}
+use Rattle.codes.specs.Tree.{among, factors, is-factor, is-code, code, element, at-or-above, related, width, overlap}
 use Rattle.codes.proofs.Tests.{and-false, each, each-at, same, same→eq, T-true, among-below, all-below, past-end}
 use Rattle.codes.proofs.Rows.{leaf-read-back}
 

@@ -54,7 +54,7 @@ hadamard-part-within i m = go (ltb i 16 && ltb m 16)
 
 -- ---- the codes
 pub sync-code-below : (i : ℕ) → T (is-sync-code i) → i < 16
-unfolding all-below
+unfolding all-below is-sync-code
 sync-code-below i t = among-below 16 i sync-codes tt t
 
 past-signs : {m : ℕ} → 16 ≤ m → b-signs at m ≡ pos 0

@@ -12,7 +12,8 @@ use lib.Dec.{T, eqb, leb, ltb, lit≤}
 use lib.IntN.{ℤ, pos}
 use lib.ListN.{length}
 use Rattle.complex.proofs.Sizes.{Within}
-use Rattle.codes.specs.Signs.{signs, _at_, minus-if, packed, sign-bit}
+use Rattle.codes.specs.Signs.{signs, _at_, minus-if}
+use Rattle.codes.specs.Held.{packed, sign-bit}
 use Rattle.codes.specs.AnnexA.{annex-A}
 use Rattle.codes.specs.Scrambling.{row, v}
 use Rattle.codes.specs.Tree.{code}

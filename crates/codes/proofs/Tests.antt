@@ -11,7 +11,7 @@ use lib.Dec.{T, eqb, eqb→eq, ltb, ltb→lt}
 use mir.Facts.{and-yes}
 use lib.IntN.{ℤ, pos, negsuc}
 use lib.ListN.{getD, length}
-use Rattle.codes.specs.Matches.{NoneOf-after, NoneOf, from}
+use Rattle.codes.specs.Held.{NoneOf-after, NoneOf, from}
 use Rattle.codes.specs.Tree.{among}
 
 pub and-false : (t : Bool) → (t && false) ≡ false

@@ -17,7 +17,7 @@ use Rattle.codes.specs.Tree.{among}
 abbrev pub set-of : ℕ → ℕ → ℕ → CodeSet
 set-of A B D = record { a = A; b = B; d = D }
 
-abbrev pub code-set : ℕ → CodeSet
+unfoldable pub code-set : ℕ → CodeSet
 code-set n = getD (set-of 1 3 5 ∷ set-of 10 13 14 ∷ set-of 0 6 12 ∷ set-of 4 8 15 ∷ []) (n - 1) (set-of 0 0 0)
 
 -- a pair of codes with the unit of both, and the marker's code
@@ -28,7 +28,7 @@ pub record Row : Type 0 where
   pub marker : ℕ
 
 -- Row 0 gives pair (A, B) with unit 1 and marker D; 1 gives (A, B) with j and D; 2 gives (A, D) with j and B; 3 gives (B, D) with j and A.
-abbrev pub row : ℕ → CodeSet → Row
+unfoldable pub row : ℕ → CodeSet → Row
 row n s =
     getD (
     record { first = s .a; second = s .b; unit = 𝟏; marker = s .d } ∷
@@ -41,7 +41,7 @@ abbrev pub with-unit : ℕ → Complex → ModulatedCode
 with-unit i u = record { code = i; unit = u }
 
 -- a row's three codes, each with its unit, for the signs of the pair and of the marker
-abbrev pub signed : Row → ℤ → ℤ → ℤ → Allocated
+unfoldable pub signed : Row → ℤ → ℤ → ℤ → Allocated
 signed r s t m =
     record {
       first = with-unit (r .first) (real s ⊗ r .unit);
@@ -51,7 +51,7 @@ signed r s t m =
 
 -- Case 1: set 1 + g div 16, r = g mod 16. Row r div 4. r mod 4 = 0, 1, 2, 3 signs the pair ++, +-, -+, --.
 -- The marker is +1 in frame 1, -1 in frame 2.
-abbrev pub case-1 : ℕ → ℕ → Allocated
+unfoldable pub case-1 : ℕ → ℕ → Allocated
 case-1 g frame =
     let r = g % 16 in
     signed (row (r / 4) (code-set (1 + g / 16)))
@@ -59,18 +59,18 @@ case-1 g frame =
 
 -- Case 2: set 1 + g div 8, r = g mod 8, rows by r div 2 as above. The pair is ++ for even r, +- for odd r, both negated in frame 2.
 -- The marker is +1 in half 0 (slot k), -1 in half 1 (slot k+8).
-abbrev pub case-2 : ℕ → ℕ → ℕ → Allocated
+unfoldable pub case-2 : ℕ → ℕ → ℕ → Allocated
 case-2 g frame half =
     let r = g % 8 in
     let f = minus-if (eqb frame 2) in
     signed (row (r / 2) (code-set (1 + g / 8)))
     f (f *ℤ minus-if (eqb (r % 2) 1)) (minus-if (eqb half 1))
 
-abbrev pub one-or-two : ℕ → Bool
+unfoldable pub one-or-two : ℕ → Bool
 one-or-two n = among n (1 ∷ 2 ∷ [])
 
 -- Refusal 15 is for "frame not 1 or 2, half above 1, or half 1 in case 1": any other occasion is one.
-abbrev pub is-occasion : ℕ → ℕ → ℕ → Bool
+unfoldable pub is-occasion : ℕ → ℕ → ℕ → Bool
 is-occasion case frame half = one-or-two frame && not (leb 2 half) && not (eqb half 1 && eqb case 1)
 
 -- no code: what an allocation outside its range gives

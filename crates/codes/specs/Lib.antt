@@ -1,4 +1,3 @@
-pub mod Matches
 pub mod Signs
 pub mod Tree
 pub mod AnnexA
@@ -8,3 +7,4 @@ pub mod Allocation
 pub mod Burst
 pub mod Refusals
 pub mod Calls
+pub mod Held

@@ -1,11 +1,11 @@
 -- Rows of signs: lists of 1 and -1.
 use lib.IntN.{ℤ, pos, negsuc}
-use Prim.Native.Nat.{ℕ, zero, suc, _+_, _*_, _-_, _/_, _%_, _^_}
+use Prim.Native.Nat.{ℕ}
 use Prim.Native.Char.{Char, code}
 use Prim.Native.String.{String, [] as ε, _∷_ as _▸_}
 use mathlib.Core.List.{List, [], _∷_}
 use mathlib.Core.Bool.{Bool, cond}
-use lib.Dec.{eqb, ltb}
+use lib.Dec.{eqb}
 use lib.ListN.{getD}
 
 -- '+' is 1, any other character is -1
@@ -25,19 +25,3 @@ l at n = getD l n (pos 0)
 -- -1 where the test holds, else 1
 abbrev pub minus-if : Bool → ℤ
 minus-if t = cond t (negsuc 0) (pos 1)
-
--- ---- how the code holds a row: as a binary number, the first sign first, 1 for 1 and 0 for -1
-abbrev pub digit : ℤ → ℕ
-digit (pos n) = 1
-digit (negsuc n) = 0
-
-abbrev pub packed-after : ℕ → List ℤ → ℕ
-packed-after n [] = n
-packed-after n (s ∷ l) = packed-after (2 * n + digit s) l
-
-abbrev pub packed : List ℤ → ℕ
-packed l = packed-after 0 l
-
--- element i, from 0, of a row of 16 signs that is held so; 0 past its end
-unfoldable pub sign-bit : ℕ → ℕ → ℤ
-sign-bit row i = cond (ltb 15 i) (pos 0) (minus-if (eqb (row / 2 ^ (15 - i) % 2) 0))

@@ -46,7 +46,7 @@ hadamard m n = minus-if (eqb (ones (bitAnd m n) % 2) 1)
 abbrev pub sync-codes : List ℕ
 sync-codes = 0 ∷ 1 ∷ 3 ∷ 4 ∷ 5 ∷ 6 ∷ 8 ∷ 10 ∷ 12 ∷ 13 ∷ 14 ∷ 15 ∷ []
 
-abbrev pub is-sync-code : ℕ → Bool
+unfoldable pub is-sync-code : ℕ → Bool
 is-sync-code i = among i sync-codes
 
 -- Ci is (1+j) times z times row 16i of that matrix; 0 where i is none of these.

@@ -4,7 +4,7 @@ use Prim.Native.Nat.{ℕ, zero, suc, _+_, _*_, _-_, _/_, _%_}
 use mathlib.Core.List.{List, [], _∷_, _++_, map}
 use mathlib.Core.Bool.{Bool, true, false, _&&_, _||_, cond}
 use lib.Dec.{eqb, leb, ltb}
-use Rattle.codes.specs.Signs.{_at_, packed}
+use Rattle.codes.specs.Signs.{_at_}
 
 -- n stands in the list
 abbrev pub among : ℕ → List ℕ → Bool
@@ -53,14 +53,10 @@ at-or-above Q k Q′ k′ = leb Q Q′ && eqb k (up (level Q′ - level Q) k′)
 unfoldable pub related : ℕ → ℕ → ℕ → ℕ → Bool
 related Q k Q′ k′ = is-code Q k && is-code Q′ k′ && (at-or-above Q k Q′ k′ || at-or-above Q′ k′ Q k)
 
--- ---- the tree seen from its leaves, the sixteen codes of Q 16: the code rules use it, and a law says that it is the tree above
+-- ---- the tree seen from its leaves, the sixteen codes of Q 16; the law `related-overlap` joins it to the above
 -- how many leaves lie below a code of factor Q; 0 where Q is no factor
 abbrev pub width : ℕ → ℕ
 width Q = cond (is-factor Q) (16 / Q) 0
-
--- the leaves' signs, as the code holds them
-abbrev pub leaf-rows : List ℕ
-leaf-rows = map (λ x. packed (code 16 x)) (0 ∷ 1 ∷ 2 ∷ 3 ∷ 4 ∷ 5 ∷ 6 ∷ 7 ∷ 8 ∷ 9 ∷ 10 ∷ 11 ∷ 12 ∷ 13 ∷ 14 ∷ 15 ∷ [])
 
 -- the intervals [k·16/Q, (k+1)·16/Q) of two codes overlap
 unfoldable pub overlap : ℕ → ℕ → ℕ → ℕ → Bool

@@ -1,9 +1,8 @@
 // Scrambling codes and code groups.
 ghost use mathlib.Core.Path.{_≡_};
 ghost use Prim.Native.Nat.{_+_};
-ghost use Rattle.codes.specs.Signs.{packed};
+ghost use Rattle.codes.specs.Held.{packed, NoneOf, from};
 ghost use Rattle.codes.specs.Scrambling.{code-group, row, scrambling, v};
-ghost use Rattle.codes.specs.Matches.{NoneOf, from};
 use crate::CellParameter;
 use crate::CodeGroup;
 use crate::signs::sign_at;

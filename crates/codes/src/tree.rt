@@ -1,8 +1,8 @@
 // The tree of channelisation codes.
 ghost use mathlib.Core.Path.{_≡_};
 ghost use lib.ListN.{getD};
-ghost use Rattle.codes.specs.Tree.{element, leaf-rows, related, width};
-ghost use Rattle.codes.specs.Matches.{NoneOf, from};
+ghost use Rattle.codes.specs.Tree.{element, related, width};
+ghost use Rattle.codes.specs.Held.{leaf-rows, NoneOf, from};
 use crate::signs::sign_at;
 
 // How many of the sixteen codes of Q 16 lie below a code of spreading factor q: 16/q, or 0 where q is no factor.

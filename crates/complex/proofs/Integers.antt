@@ -118,5 +118,8 @@ pos-one-*ℤ x = by-parts _ _ (omega (arith, *ℤ-parts (pos 1) x))
 pub *ℤ-pos-one : (x : ℤ) → x *ℤ pos 1 ≡ x
 *ℤ-pos-one x = *ℤ-comm x (pos 1) ∙ pos-one-*ℤ x
 
+pub negsuc-zero-*ℤ : (x : ℤ) → negsuc 0 *ℤ x ≡ negℤ x
+negsuc-zero-*ℤ x = negℤ-*ℤ (pos 1) x ∙ ap negℤ (pos-one-*ℤ x)
+
 -- an equation of the ring in which nothing cancels: `simp ring`
 pub ruleset ring = (+ℤ-assoc, +ℤ-comm, +ℤ-left, *ℤ-assoc, *ℤ-comm, *ℤ-left, *ℤ-+ℤ, +ℤ-*ℤ, negℤ-+ℤ, negℤ-negℤ, negℤ-*ℤ, *ℤ-negℤ, +ℤ-idl, +ℤ-idr, zero-*ℤ, *ℤ-zero, pos-one-*ℤ, *ℤ-pos-one)

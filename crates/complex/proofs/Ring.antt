@@ -1,9 +1,9 @@
 -- Complex values are a commutative ring, and conj keeps sums and products. Assumes nothing.
 use mathlib.Core.Path.{_≡_, refl, sym, ap, ap₂, _∙_}
-use lib.IntN.{ℤ, pos, _+ℤ_, _*ℤ_, negℤ, +ℤ-comm, +ℤ-assoc, +ℤ-idl, +ℤ-idr, zero-*ℤ, *ℤ-zero, negℤ-+ℤ, negℤ-negℤ}
+use lib.IntN.{ℤ, pos, negsuc, _+ℤ_, _-ℤ_, _*ℤ_, negℤ, +ℤ-invr, +ℤ-comm, +ℤ-assoc, +ℤ-idl, +ℤ-idr, zero-*ℤ, *ℤ-zero, negℤ-+ℤ, negℤ-negℤ}
 use Rattle.complex.specs.declared.Complex.{Complex}
 use Rattle.complex.specs.Arithmetic.{_+j_, real, 𝟎, 𝟏, _⊕_, _⊗_, conj}
-use Rattle.complex.proofs.Integers.{ring, +ℤ-left, negℤ-*ℤ, *ℤ-negℤ, *ℤ-pos-one}
+use Rattle.complex.proofs.Integers.{ring, +ℤ-left, negℤ-*ℤ, *ℤ-negℤ, *ℤ-pos-one, negsuc-zero-*ℤ}
 
 -- equal components, equal values
 pub by-components : {x y : Complex} → x .re ≡ y .re → x .im ≡ y .im → x ≡ y
@@ -27,6 +27,17 @@ unfolding _⊕_ 𝟎
 
 pub ⊕-𝟎 : (x : Complex) → x ⊕ 𝟎 ≡ x
 ⊕-𝟎 x = ⊕-comm x 𝟎 ∙ 𝟎-⊕ x
+
+-- the negative of x is -1 times x
+pub ⊕-negative : (x : Complex) → x ⊕ real (negsuc 0) ⊗ x ≡ 𝟎
+unfolding _⊕_ _⊗_ real 𝟎
+⊕-negative x = by-components (by (x .re) (x .im)) (by′ (x .re) (x .im))
+  where
+    by : (a b : ℤ) → a +ℤ (negsuc 0 *ℤ a -ℤ pos 0 *ℤ b) ≡ pos 0
+    by a b = rw (negsuc-zero-*ℤ, zero-*ℤ, +ℤ-idr) (+ℤ-invr a)
+
+    by′ : (a b : ℤ) → b +ℤ (negsuc 0 *ℤ b +ℤ pos 0 *ℤ a) ≡ pos 0
+    by′ a b = rw (negsuc-zero-*ℤ, zero-*ℤ, +ℤ-idr) (+ℤ-invr b)
 
 pub ⊗-comm : (x y : Complex) → x ⊗ y ≡ y ⊗ x
 unfolding _⊗_

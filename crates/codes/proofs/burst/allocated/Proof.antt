@@ -5,7 +5,7 @@ use mathlib.Core.List.{[], _∷_}
 use borrow.Author.Needs.{needs}
 use borrow.Author.Tests.{not-true, not-false, le-leb, lt-leb}
 use lib.Dec.{leb}
-use Rattle.codes.specs.Allocation.{allocation, is-occasion}
+use Rattle.codes.specs.Allocation.{allocation, one-or-two, is-occasion}
 use Rattle.codes.proofs.Tests.{and-false, none-of}
 use Rattle.codes.proofs.burst.allocated.Statement.{statement}
 use Rattle.codes.proofs.burst.allocated.Tie as tie
@@ -33,19 +33,19 @@ returns-2 c =
     ) (c .silent2 .ensures)
 
 returns-3 : tie.Need-returns-3
-unfolding allocation
+unfolding allocation one-or-two
 returns-3 c =
     let d = c .before .before in
     rw (group-passed d, occasion-passed d, c .before .match .keys1) (c .case-1 .ensures)
 
 returns-4 : tie.Need-returns-4
-unfolding allocation
+unfolding allocation one-or-two
 returns-4 c =
     let d = c .before .before in
     rw (group-passed d, occasion-passed d, c .before .match .keys2) (c .case-2 .ensures)
 
 returns-5 : tie.Need-returns-5
-unfolding allocation
+unfolding allocation one-or-two
 returns-5 c =
     let d = c .before .before in
     rw (group-passed d, occasion-passed d, none-of (1 ∷ 2 ∷ []) (d .before .before .before .before .args .case) (c .before .match .rest)) (c .silent3 .ensures)

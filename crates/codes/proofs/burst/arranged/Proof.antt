@@ -10,7 +10,7 @@ use Rattle.complex.specs.Arithmetic.{real, 𝟏, 𝐣, _⊗_}
 use Rattle.complex.proofs.Ring.{⊗-𝟏}
 use Rattle.codes.specs.declared.Allocated.{Allocated}
 use Rattle.codes.specs.Signs.{minus-if}
-use Rattle.codes.specs.Allocation.{with-unit}
+use Rattle.codes.specs.Allocation.{row, signed, with-unit}
 use Rattle.codes.proofs.burst.arranged.Statement.{statement}
 use Rattle.codes.proofs.burst.arranged.Tie as tie
 
@@ -30,24 +30,28 @@ in-row c k a b d e =
     λ i. three a (p i) b (q i) d (r i)
 
 returns : tie.Need-returns
+unfolding signed row
 returns c =
     let m = c .before in
     let s = m .before .before .before .before .args .set in
     rw (m .match .keys1) (c .three .ensures ∙ in-row (m .before) 0 (s .a) (s .b) (s .d) (m .match .keys1))
 
 returns-2 : tie.Need-returns-2
+unfolding signed row
 returns-2 c =
     let m = c .before in
     let s = m .before .before .before .before .args .set in
     rw (m .match .keys2) (c .three2 .ensures ∙ in-row (m .before) 1 (s .a) (s .b) (s .d) (m .match .keys2))
 
 returns-3 : tie.Need-returns-3
+unfolding signed row
 returns-3 c =
     let m = c .before in
     let s = m .before .before .before .before .args .set in
     rw (m .match .keys3) (c .three3 .ensures ∙ in-row (m .before) 2 (s .a) (s .d) (s .b) (m .match .keys3))
 
 returns-4 : tie.Need-returns-4
+unfolding signed row
 returns-4 c =
     let m = c .before in
     let s = m .before .before .before .before .args .set in

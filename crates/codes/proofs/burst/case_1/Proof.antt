@@ -1,5 +1,6 @@
 -- `case_1` meets its contract. Assumes nothing.
 use borrow.Author.Needs.{needs}
+use Rattle.codes.specs.Allocation.{case-1}
 use Rattle.codes.proofs.burst.case_1.Statement.{statement}
 use Rattle.codes.proofs.burst.case_1.Tie as tie
 
@@ -13,6 +14,7 @@ arranged-requires : tie.Need-arranged-requires
 arranged-requires c κs = search needs
 
 returns : tie.Need-returns
+unfolding case-1
 returns c = rw (c .before .code-set .ensures) at (c .arranged .ensures)
 
 pub case-1-spec : {M : Type 1} → statement M

@@ -4,6 +4,7 @@ use mathlib.Core.Bool.{Bool, true, false, not, Bool·beq}
 use lib.IntN.{_*ℤ_}
 use borrow.Author.Needs.{needs}
 use Rattle.codes.specs.Signs.{minus-if}
+use Rattle.codes.specs.Allocation.{case-2}
 use Rattle.codes.proofs.burst.case_2.Statement.{statement}
 use Rattle.codes.proofs.burst.case_2.Tie as tie
 
@@ -24,6 +25,7 @@ arranged-requires : tie.Need-arranged-requires
 arranged-requires c κs = search needs
 
 returns : tie.Need-returns
+unfolding case-2
 returns c = rw (c .before .code-set .ensures, signs-differ) at (c .arranged .ensures)
 
 pub case-2-spec : {M : Type 1} → statement M

@@ -6,6 +6,7 @@ use Rattle.codes.proofs.burst.code_set.Statement.{statement}
 use Rattle.codes.proofs.burst.code_set.Tie as tie
 
 pub code-set-spec : {M : Type 1} → statement M
+unfolding code-set
 code-set-spec =
     tie.close
     (tie.spec

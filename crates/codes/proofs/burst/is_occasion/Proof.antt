@@ -3,7 +3,7 @@ use mathlib.Core.Path.{_≡_, sym, _∙_}
 use mathlib.Core.Bool.{true, false}
 use borrow.Author.Needs.{needs}
 use borrow.Author.Tests.{not-true, not-false, le-leb, lt-leb, eq-eqb, ne-eqb}
-use Rattle.codes.specs.Allocation.{one-or-two}
+use Rattle.codes.specs.Allocation.{one-or-two, is-occasion}
 use Rattle.codes.proofs.burst.is_occasion.Statement.{statement}
 use Rattle.codes.proofs.burst.is_occasion.Tie as tie
 
@@ -11,20 +11,24 @@ one-or-two-requires : tie.Need-one-or-two-requires
 one-or-two-requires c κs = search needs
 
 returns : tie.Need-returns
+unfolding is-occasion
 returns c = rw (sym (c .before .one-or-two .ensures) ∙ not-true (c .before .one-or-two .result) (c .if1 .taken))
 
 good-frame : (c : tie.Else1) → one-or-two (c .before .before .args .frame) ≡ true
 good-frame c = sym (c .before .one-or-two .ensures) ∙ not-false (c .before .one-or-two .result) (c .if1 .left)
 
 returns-2 : tie.Need-returns-2
+unfolding is-occasion
 returns-2 c = rw (good-frame (c .before), le-leb 2 (c .before .before .before .args .half) (c .if2 .taken))
 
 returns-3 : tie.Need-returns-3
+unfolding is-occasion
 returns-3 c =
     let h = c .before .before .before .before .args .half in
     rw (good-frame (c .before .before), lt-leb 2 h (c .before .if2 .left), eq-eqb h 1 (c .if3 .taken))
 
 returns-4 : tie.Need-returns-4
+unfolding is-occasion
 returns-4 c =
     let h = c .before .before .before .before .args .half in
     rw (good-frame (c .before .before), lt-leb 2 h (c .before .if2 .left), ne-eqb h 1 (c .if3 .left))

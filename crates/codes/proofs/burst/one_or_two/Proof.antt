@@ -7,6 +7,7 @@ use Rattle.codes.proofs.burst.one_or_two.Statement.{statement}
 use Rattle.codes.proofs.burst.one_or_two.Tie as tie
 
 pub one-or-two-spec : {M : Type 1} → statement M
+unfolding one-or-two
 one-or-two-spec =
     tie.close
     (tie.spec

@@ -4,7 +4,8 @@ use borrow.Author.Needs.{needs}
 use mir.Syntax.{w32}
 use mir.Val.{SFits}
 use mir.Facts.{toZ-ofZ}
-use Rattle.codes.specs.Signs.{_at_, sign-bit}
+use Rattle.codes.specs.Signs.{_at_}
+use Rattle.codes.specs.Held.{sign-bit}
 use Rattle.codes.specs.SyncCodes.{a-signs}
 use Rattle.codes.proofs.Tests.{each, same}
 use Rattle.codes.proofs.Rows.{reads-back, read-back}

@@ -6,6 +6,7 @@ use Rattle.codes.proofs.sync.is_code.Statement.{statement}
 use Rattle.codes.proofs.sync.is_code.Tie as tie
 
 pub is-code-spec : {M : Type 1} → statement M
+unfolding is-sync-code
 is-code-spec =
     tie.close
     (tie.spec

@@ -13,7 +13,8 @@ use mir.Facts.{toZ-ofZ}
 use Rattle.complex.specs.Arithmetic.{_+j_, real, 𝟎, _⊗_}
 use Rattle.complex.proofs.Machine.{mul-asks, mul-gives}
 use Rattle.complex.proofs.Sizes.{Within, within-mul, fits-within}
-use Rattle.codes.specs.Signs.{_at_, sign-bit}
+use Rattle.codes.specs.Signs.{_at_}
+use Rattle.codes.specs.Held.{sign-bit}
 use Rattle.codes.specs.SyncCodes.{b, b-signs, is-sync-code, C}
 use Rattle.codes.proofs.Tests.{each, same}
 use Rattle.codes.proofs.Rows.{reads-back, row-within}

@@ -1,6 +1,6 @@
 -- `no_leaf` meets its contract: the tree has sixteen leaves. Assumes nothing.
 use mathlib.Core.Path.{sym}
-use Rattle.codes.specs.Tree.{leaf-rows}
+use Rattle.codes.specs.Held.{leaf-rows}
 use Rattle.codes.proofs.Tests.{none-below, past-end}
 use Rattle.codes.proofs.tree.no_leaf.Statement.{statement}
 use Rattle.codes.proofs.tree.no_leaf.Tie as tie

@@ -1,0 +1,12 @@
+# make test: every check of the repository; its last line is rt ci's verdict.
+# make values: prove and build the code rules, and print every value of them.
+.PHONY: test values
+
+test:
+	@rt fmt --check
+	@tests/compiler-refusals.sh
+	@rt ci
+
+values:
+	@rt check code_values >&2
+	@target/bin/code_values

@@ -1,0 +1,11 @@
+// Prints every value of the crate codes, then its answers at and past the limits of its calls: a line has a call, its
+// arguments and what it answers. The file stdout has the same lines as the standard gives them.
+mod calls;
+mod edges;
+mod print;
+mod values;
+
+fn main() {
+    values::all();
+    edges::all();
+}

@@ -1,0 +1,45 @@
+-- How the code holds rows of signs, and what the last arm of its `match`es knows. Nothing here is document 01's: the contracts of the
+-- public calls do not name it.
+use mathlib.Core.Path.{_≡_}
+use lib.IntN.{ℤ, pos, negsuc}
+use Prim.Native.Nat.{ℕ, zero, suc, _+_, _*_, _-_, _/_, _%_, _^_}
+use mathlib.Core.List.{List, [], _∷_, map}
+use mathlib.Core.Bool.{cond}
+use lib.Dec.{eqb, ltb}
+use Rattle.codes.specs.Signs.{minus-if}
+use Rattle.codes.specs.Tree.{code}
+
+-- a row of signs as a binary number, the first sign first, 1 for 1 and 0 for -1
+abbrev pub digit : ℤ → ℕ
+digit (pos n) = 1
+digit (negsuc n) = 0
+
+abbrev pub packed-after : ℕ → List ℤ → ℕ
+packed-after n [] = n
+packed-after n (s ∷ l) = packed-after (2 * n + digit s) l
+
+abbrev pub packed : List ℤ → ℕ
+packed l = packed-after 0 l
+
+-- element i, from 0, of a row of 16 signs that is held so; 0 past its end
+unfoldable pub sign-bit : ℕ → ℕ → ℤ
+sign-bit row i = cond (ltb 15 i) (pos 0) (minus-if (eqb (row / 2 ^ (15 - i) % 2) 0))
+
+-- the n numbers from k on
+abbrev pub from : ℕ → ℕ → List ℕ
+from k zero = []
+from k (suc n) = k ∷ from (suc k) n
+
+-- the sixteen codes of Q 16
+abbrev pub leaf-rows : List ℕ
+leaf-rows = map (λ x. packed (code 16 x)) (from 0 16)
+
+-- ---- the last arm of a `match` on x
+-- beside A, x is none of the numbers
+abbrev pub NoneOf-after : Type 0 → List ℕ → ℕ → Type 0
+NoneOf-after A [] x = A
+NoneOf-after A (k ∷ ks) x = NoneOf-after (A × (x ≡ k → ⊥)) ks x
+
+-- x is none of the numbers, as the arms for them leave it
+abbrev pub NoneOf : List ℕ → ℕ → Type 0
+NoneOf ks x = NoneOf-after (Unit {0}) ks x
