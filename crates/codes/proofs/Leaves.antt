@@ -2,18 +2,18 @@
 -- intervals of leaves overlap. Each is a test over all 31 codes. Assumes nothing.
 use mathlib.Core.Path.{_≡_, refl, sym, ap, _∙_, subst}
 use mathlib.Core.Bool.{Bool, true, false, _&&_, _||_, cond, not}
-use Prim.Native.Nat.{ℕ, zero, suc, _+_, _*_, _/_, _%_, _<_, _≤_}
+use Prim.Native.Nat.{ℕ, suc, _+_, _*_, _/_, _%_, _<_, _≤_}
 use native.Mathlib.Nat.{div-add-mod', lt-of-not-le, mul-le-mul-left}
 use native.Mathlib.Decide.{decLe}
 use native.Mathlib.Omega.{arith}
-use borrow.Author.Tests.{lt-ltb, le-ltb}
+use borrow.Author.Tests.{le-ltb}
 use lib.Dec.{T, eqb, eqb→eq, leb, leb→le, ltb, ltb→lt}
-use lib.IntN.{ℤ, pos}
+use lib.IntN.{pos}
 use lib.ListN.{getD, length}
 use Rattle.codes.specs.Signs.{_at_}
 use Rattle.codes.specs.Held.{packed, sign-bit, leaf-rows}
-use Rattle.codes.specs.Tree.{among, factors, is-factor, is-code, code, element, at-or-above, related, width, overlap}
-use Rattle.codes.proofs.Tests.{and-false, each, each-at, same, same→eq, T-true, among-below, all-below, past-end}
+use Rattle.codes.specs.Tree.{factors, is-factor, is-code, code, element, at-or-above, related, width, overlap}
+use Rattle.codes.proofs.Tests.{agree, agree→eq, and-false, each, each-at, same, same→eq, T-true, among-below, all-below, past-end}
 use Rattle.codes.proofs.Rows.{leaf-read-back}
 
 -- ---- a test of every code
@@ -124,17 +124,6 @@ leaf-row x h n =
     ∙ leaf-read-back x h n
 
 -- ---- related codes
-agree : Bool → Bool → Bool
-agree true b = b
-agree false b = not b
-
-agree→eq : (s t : Bool) → T (agree s t) → s ≡ t
-unfolding agree
-agree→eq true true u = refl
-agree→eq true false u = absurd u
-agree→eq false true u = absurd u
-agree→eq false false u = refl
-
 overlaps : ℕ → ℕ → Bool
 overlaps Q k = each-code (λ Q′ k′. agree (related Q k Q′ k′) (overlap Q k Q′ k′))
 

@@ -1,6 +1,6 @@
 -- A rule over finitely many cases is one test that antt computes, and one law that turns it into the rule at each case. Assumes nothing.
 use mathlib.Core.Path.{_≡_, refl, sym, ap, subst, _∙_}
-use mathlib.Core.Bool.{Bool, true, false, _&&_, cond}
+use mathlib.Core.Bool.{Bool, true, false, _&&_, cond, not}
 use mathlib.Core.List.{List, [], _∷_}
 use Prim.Native.Nat.{ℕ, zero, suc, _+_, _≤_, _<_}
 use native.Mathlib.Nat.{not-suc-le-zero}
@@ -39,6 +39,18 @@ each-at (suc n) f t k l = pick (ℕ-discrete n k) (λ m. each-at n f (both-right
     pick : Dec (n ≡ k) → (k < n → T (f k)) → T (f k)
     pick (yes e) r = subst (λ (m : ℕ). T (f m)) e (both-left (f n) (each n f) t)
     pick (no e) r = r (omega arith)
+
+-- two tests agree
+unfoldable pub agree : Bool → Bool → Bool
+agree true b = b
+agree false b = not b
+
+pub agree→eq : (s t : Bool) → T (agree s t) → s ≡ t
+unfolding agree
+agree→eq true true u = refl
+agree→eq true false u = absurd u
+agree→eq false true u = absurd u
+agree→eq false false u = refl
 
 -- two whole numbers are equal
 unfoldable pub same : ℤ → ℤ → Bool

@@ -1,7 +1,7 @@
 -- Document 01, "The sync burst": which codes a group sends, with which units (TS 25.223, tables 4 and 5).
-use lib.IntN.{ℤ, pos, negsuc, _*ℤ_}
-use Prim.Native.Nat.{ℕ, zero, suc, _+_, _-_, _/_, _%_}
-use mathlib.Core.List.{List, [], _∷_}
+use lib.IntN.{ℤ, _*ℤ_}
+use Prim.Native.Nat.{ℕ, _+_, _-_, _/_, _%_}
+use mathlib.Core.List.{[], _∷_}
 use mathlib.Core.Bool.{Bool, _&&_, cond, not}
 use lib.Dec.{eqb, leb}
 use lib.ListN.{getD}
@@ -49,13 +49,13 @@ signed r s t m =
       marker = with-unit (r .marker) (real m);
     }
 
--- Case 1: set 1 + g div 16, r = g mod 16. Row r div 4. r mod 4 = 0, 1, 2, 3 signs the pair ++, +-, -+, --.
--- The marker is +1 in frame 1, -1 in frame 2.
+-- Case 1: set 1 + g div 16, r = g mod 16. Row r div 4. r mod 4 = 0, 1, 2, 3 signs the pair ++, +-, -+, --:
+-- the first is negative for 2 and 3, the second for 1 and 3. The marker is +1 in frame 1, -1 in frame 2.
 unfoldable pub case-1 : ℕ → ℕ → Allocated
 case-1 g frame =
     let r = g % 16 in
     signed (row (r / 4) (code-set (1 + g / 16)))
-    (minus-if (leb 2 (r % 4))) (minus-if (eqb (r % 2) 1)) (minus-if (eqb frame 2))
+    (minus-if (among (r % 4) (2 ∷ 3 ∷ []))) (minus-if (among (r % 4) (1 ∷ 3 ∷ []))) (minus-if (eqb frame 2))
 
 -- Case 2: set 1 + g div 8, r = g mod 8, rows by r div 2 as above. The pair is ++ for even r, +- for odd r, both negated in frame 2.
 -- The marker is +1 in half 0 (slot k), -1 in half 1 (slot k+8).

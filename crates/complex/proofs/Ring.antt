@@ -1,6 +1,6 @@
 -- Complex values are a commutative ring, and conj keeps sums and products. Assumes nothing.
 use mathlib.Core.Path.{_≡_, refl, sym, ap, ap₂, _∙_}
-use lib.IntN.{ℤ, pos, negsuc, _+ℤ_, _-ℤ_, _*ℤ_, negℤ, +ℤ-invr, +ℤ-comm, +ℤ-assoc, +ℤ-idl, +ℤ-idr, zero-*ℤ, *ℤ-zero, negℤ-+ℤ, negℤ-negℤ}
+use lib.IntN.{ℤ, pos, negsuc, _+ℤ_, _-ℤ_, _*ℤ_, +ℤ-invr, +ℤ-comm, +ℤ-assoc, +ℤ-idl, +ℤ-idr, zero-*ℤ, *ℤ-zero, negℤ-+ℤ, negℤ-negℤ}
 use Rattle.complex.specs.declared.Complex.{Complex}
 use Rattle.complex.specs.Arithmetic.{_+j_, real, 𝟎, 𝟏, _⊕_, _⊗_, conj}
 use Rattle.complex.proofs.Integers.{ring, +ℤ-left, negℤ-*ℤ, *ℤ-negℤ, *ℤ-pos-one, negsuc-zero-*ℤ}

@@ -3,11 +3,11 @@ use mathlib.Core.Path.{_≡_, refl, sym, ap, _∙_}
 use Prim.Native.Nat.{ℕ, zero, suc, _+_, _*_, _/_, _%_}
 use native.Mathlib.Nat.{zero-add, suc-add, div-add-mod'}
 use native.Mathlib.Omega.{arith}
-use lib.IntN.{ℤ, pos, negsuc, negℤ, _+ℤ_, _*ℤ_, negℤ-negℤ}
+use lib.IntN.{ℤ, pos, negℤ, _+ℤ_, _*ℤ_, negℤ-negℤ}
 use Rattle.complex.specs.declared.Complex.{Complex}
-use Rattle.complex.specs.Arithmetic.{_+j_, real, 𝟏, 𝐣, _⊗_, conj, j^}
+use Rattle.complex.specs.Arithmetic.{_+j_, 𝟏, 𝐣, _⊗_, conj, j^}
 use Rattle.complex.proofs.Integers.{ring}
-use Rattle.complex.proofs.Ring.{by-components, products, 𝟏-⊗, ⊗-𝟏, ⊗-assoc, ⊗-comm, conj-⊗}
+use Rattle.complex.proofs.Ring.{by-components, products, 𝟏-⊗, ⊗-𝟏, ⊗-assoc, conj-⊗}
 
 -- times j
 pub 𝐣-⊗ : (x : Complex) → 𝐣 ⊗ x ≡ negℤ (x .im) +j x .re

@@ -7,7 +7,7 @@ use native.Mathlib.Decide.{ℕ-discrete}
 use native.Mathlib.Omega.{arith}
 use Rattle.complex.specs.declared.Complex.{Complex}
 use Rattle.complex.specs.Arithmetic.{𝟎, _⊕_, _⊗_, conj, Σ<}
-use Rattle.complex.proofs.Ring.{sums, ⊕-assoc, ⊕-𝟎, 𝟎-⊕, ⊗-𝟎, ⊗-⊕, ⊗-comm, conj-⊕}
+use Rattle.complex.proofs.Ring.{sums, ⊕-assoc, ⊕-𝟎, 𝟎-⊕, ⊗-𝟎, ⊗-⊕, conj-⊕}
 
 pub Σ-𝟎 : (n : ℕ) → Σ< n (λ i. 𝟎) ≡ 𝟎
 unfolding Σ<

@@ -1,5 +1,4 @@
 -- What a 32-bit component can hold.
-use lib.IntN.{ℤ, negℤ}
 use mir.Syntax.{w32}
 use mir.Val.{SFits}
 use Rattle.complex.specs.declared.Complex.{Complex}

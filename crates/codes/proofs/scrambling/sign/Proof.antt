@@ -1,5 +1,5 @@
 -- `sign` meets its contract: the row of Annex A read back, and 0 past its end and where there is no row. Assumes nothing.
-use mathlib.Core.Path.{_≡_, sym, _∙_, ap}
+use mathlib.Core.Path.{_≡_, _∙_, ap}
 use Prim.Native.Nat.{_+_, _-_}
 use native.Mathlib.Omega.{arith}
 use borrow.Author.Needs.{needs}
@@ -7,7 +7,7 @@ use mir.Syntax.{w32}
 use mir.Val.{SFits}
 use mir.Facts.{toZ-ofZ}
 use Rattle.codes.specs.Signs.{_at_}
-use Rattle.codes.specs.Held.{packed, sign-bit}
+use Rattle.codes.specs.Held.{sign-bit}
 use Rattle.codes.specs.AnnexA.{annex-A}
 use Rattle.codes.specs.Scrambling.{row, v}
 use Rattle.codes.proofs.Tests.{past-end}

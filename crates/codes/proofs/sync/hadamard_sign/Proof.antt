@@ -1,5 +1,4 @@
 -- `hadamard_sign` meets its contract: rows 16i change sign with the bits that i and the part's number share. Assumes nothing.
-use mathlib.Core.Path.{sym, _∙_}
 use borrow.Author.Tests.{le-ltb, lt-ltb, eq-eqb, ne-eqb}
 use Rattle.codes.specs.SyncCodes.{hadamard-part}
 use Rattle.codes.proofs.Parts.{hadamard-part-is}

@@ -1,11 +1,11 @@
 -- `code_sign` meets its contract: the element of the leaf that begins with the code. Assumes nothing.
-use mathlib.Core.Path.{_≡_, sym, ap, _∙_, subst}
+use mathlib.Core.Path.{sym, ap, _∙_, subst}
 use Prim.Native.Nat.{ℕ, _*_, _+_, _<_, _≤_}
 use native.Mathlib.Omega.{arith}
 use borrow.Author.Needs.{needs}
-use lib.Dec.{T, lit<}
+use lib.Dec.{T}
 use mir.Syntax.{w32}
-use mir.Val.{SFits, Fits}
+use mir.Val.{SFits}
 use mir.Facts.{toZ-ofZ, fits-below}
 use Rattle.codes.specs.Signs.{_at_}
 use Rattle.codes.specs.Held.{sign-bit}

@@ -1,13 +1,13 @@
 -- `is_related` meets its contract: it compares the intervals of leaves below the two codes. Assumes nothing.
-use mathlib.Core.Path.{_≡_, sym, ap, ap₂, _∙_}
-use mathlib.Core.Bool.{Bool, _&&_}
+use mathlib.Core.Path.{_≡_, sym, ap₂, _∙_}
+use mathlib.Core.Bool.{_&&_}
 use Prim.Native.Nat.{ℕ, _*_, _+_, _≤_}
 use native.Mathlib.Omega.{arith}
 use borrow.Author.Needs.{needs}
 use borrow.Author.Tests.{lt-ltb, le-ltb}
 use lib.Dec.{ltb}
 use mir.Facts.{fits-below}
-use Rattle.codes.specs.Tree.{is-code, related, at-or-above, overlap}
+use Rattle.codes.specs.Tree.{is-code, related, overlap}
 use Rattle.codes.proofs.Tests.{and-false}
 use Rattle.codes.proofs.Leaves.{not-below, leaves-within, related-below}
 use Rattle.codes.proofs.tree.is_related.Statement.{statement}
