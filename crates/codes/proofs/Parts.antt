@@ -11,11 +11,12 @@ use lib.Bits.{bitAnd, and-block}
 use lib.Count.{ones, ones-cat}
 use lib.Dec.{T, eqb, ltb, lit<, lit≤}
 use lib.IntN.{ℤ, pos, _*ℤ_, zero-*ℤ}
+use lib.ListN.{List·getD-eq-default}
 use Rattle.complex.specs.Arithmetic.{_+j_, real, _⊗_}
 use Rattle.complex.proofs.Sizes.{Within}
 use Rattle.codes.specs.Signs.{_at_, minus-if}
 use Rattle.codes.specs.SyncCodes.{a, a-signs, b, b-signs, repeated, Cp, z, hadamard, hadamard-part, is-sync-code, sync-codes, C}
-use Rattle.codes.proofs.Tests.{T-true, all-below, among-below, past-end}
+use Rattle.codes.proofs.Tests.{T-true, all-below, among-below}
 use Rattle.codes.proofs.Rows.{minus-if-within}
 
 -- ---- the Hadamard matrix: n, below 16, changes no bit that it shares with a row 16i
@@ -31,7 +32,7 @@ shared i m n h =
     e : 16 * i ≡ i * 16 + 0
     e = omega arith
 
-pub hadamard-shared : (i m n : ℕ) → n < 16 → hadamard (16 * i) (m * 16 + n) ≡ minus-if (eqb (ones (bitAnd i m) % 2) 1)
+hadamard-shared : (i m n : ℕ) → n < 16 → hadamard (16 * i) (m * 16 + n) ≡ minus-if (eqb (ones (bitAnd i m) % 2) 1)
 unfolding hadamard
 hadamard-shared i m n h = rw (shared i m n h)
 
@@ -51,13 +52,13 @@ hadamard-part-within i m = go (ltb i 16 && ltb m 16)
     go false = record { size = lit≤ tt }
 
 -- ---- the codes
-pub sync-code-below : (i : ℕ) → T (is-sync-code i) → i < 16
+sync-code-below : (i : ℕ) → T (is-sync-code i) → i < 16
 unfolding all-below is-sync-code
 sync-code-below i t = among-below 16 i sync-codes tt t
 
 past-signs : {m : ℕ} → 16 ≤ m → b-signs at m ≡ pos 0
 unfolding _at_
-past-signs {m} l = past-end b-signs (pos 0) m l
+past-signs {m} l = List·getD-eq-default b-signs (pos 0) {n = m} l
 
 module _ (m n : ℕ) (h : n < 16) where
   at-part : (x s : List ℤ) → repeated x s (m * 16 + n) ≡ s at m *ℤ x at n

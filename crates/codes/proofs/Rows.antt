@@ -1,40 +1,40 @@
 -- Rows of 16 signs as the code holds them. Assumes nothing.
 use mathlib.Core.Path.{_≡_, refl, sym, subst}
 use mathlib.Core.Bool.{Bool, true, false, cond}
-use mathlib.Core.List.{List, []}
-use Prim.Native.Nat.{ℕ, _-_, _/_, _%_, _^_, _≤_, _<_}
-use borrow.Author.Tests.{lt-ltb, leb-true}
+use mathlib.Core.List.{List}
+use Prim.Native.Nat.{ℕ, _+_, _-_, _/_, _%_, _^_, _≤_, _<_}
+use borrow.Author.Tests.{lt-ltb, eqb-true}
 use native.Mathlib.Decide.{decLe}
 use native.Mathlib.Nat.{lt-of-not-le}
+use native.Mathlib.Numerals.{add-one}
 use native.Mathlib.Omega.{arith}
-use Prim.Native.String.{String}
-use lib.Dec.{T, eqb, leb, ltb, lit≤}
+use lib.Dec.{T, eqb, ltb, lit≤}
 use lib.IntN.{ℤ, pos}
-use lib.ListN.{length}
+use lib.ListN.{length, List·getD-eq-default}
 use Rattle.complex.proofs.Sizes.{Within}
-use Rattle.codes.specs.Signs.{signs, _at_, minus-if}
+use Rattle.codes.specs.Signs.{_at_, minus-if}
 use Rattle.codes.specs.Held.{packed, sign-bit}
 use Rattle.codes.specs.AnnexA.{annex-A}
 use Rattle.codes.specs.Scrambling.{row, v}
 use Rattle.codes.specs.Tree.{code}
-use Rattle.codes.proofs.Tests.{each, each-at, same, same→eq, past-end}
+use Rattle.codes.proofs.Tests.{each, each-at, same, same→eq}
 
--- the row has at most 16 signs, and each is read back from the binary number
+-- the row has 16 signs, and each is read back from the binary number
 unfoldable pub reads-back : List ℤ → Bool
-reads-back l = cond (leb (length l) 16) (each 16 (λ i. same (sign-bit (packed l) i) (l at i))) false
+reads-back l = cond (eqb (length l) 16) (each 16 (λ i. same (sign-bit (packed l) i) (l at i))) false
 
-short : (l : List ℤ) → T (reads-back l) → (length l ≤ 16) × T (each 16 (λ i. same (sign-bit (packed l) i) (l at i)))
+short : (l : List ℤ) → T (reads-back l) → (length l ≡ 16) × T (each 16 (λ i. same (sign-bit (packed l) i) (l at i)))
 unfolding reads-back
-short l t = go (leb (length l) 16) refl t
+short l t = go (eqb (length l) 16) refl t
   where
-    go : (b : Bool) → leb (length l) 16 ≡ b → T (cond b (each 16 (λ i. same (sign-bit (packed l) i) (l at i))) false)
-        → (length l ≤ 16) × T (each 16 (λ i. same (sign-bit (packed l) i) (l at i)))
-    go true e u = (leb-true _ _ e, u)
+    go : (b : Bool) → eqb (length l) 16 ≡ b → T (cond b (each 16 (λ i. same (sign-bit (packed l) i) (l at i))) false)
+        → (length l ≡ 16) × T (each 16 (λ i. same (sign-bit (packed l) i) (l at i)))
+    go true e u = (eqb-true (length l) 16 e, u)
     go false e u = absurd u
 
-beyond : (l : List ℤ) (i : ℕ) → length l ≤ 16 → 16 ≤ i → sign-bit (packed l) i ≡ l at i
+beyond : (l : List ℤ) (i : ℕ) → length l ≡ 16 → 16 ≤ i → sign-bit (packed l) i ≡ l at i
 unfolding sign-bit _at_
-beyond l i h g = simp (lt-ltb 15 i (omega arith)) (sym (past-end l (pos 0) i (omega arith)))
+beyond l i h g = simp (lt-ltb 15 i (omega arith)) (sym (List·getD-eq-default l (pos 0) {n = i} (omega arith)))
 
 pub read-back : (l : List ℤ) → T (reads-back l) → (i : ℕ) → sign-bit (packed l) i ≡ l at i
 read-back l t i = go (decLe 16 i)
@@ -48,7 +48,7 @@ minus-if-within true = record { size = lit≤ tt }
 minus-if-within false = record { size = lit≤ tt }
 
 -- a sign's size
-pub sign-within : (r i : ℕ) → Within 1 (sign-bit r i)
+sign-within : (r i : ℕ) → Within 1 (sign-bit r i)
 unfolding sign-bit
 sign-within r i = go (ltb 15 i)
   where
@@ -59,10 +59,6 @@ sign-within r i = go (ltb 15 i)
 pub row-within : (l : List ℤ) → T (reads-back l) → (i : ℕ) → Within 1 (l at i)
 row-within l t i = subst (Within 1) (read-back l t i) (sign-within (packed l) i)
 
-nothing : (i : ℕ) → Within 1 ([] at i)
-unfolding _at_
-nothing i = record { size = lit≤ tt }
-
 -- the rows of Annex A, and the codes of Q 16
 annex-test : T (each 128 (λ p. reads-back (row p)))
 unfolding reads-back each same sign-bit _at_
@@ -71,13 +67,20 @@ annex-test = tt
 pub annex-read-back : (p : ℕ) → p < 128 → (i : ℕ) → sign-bit (packed (row p)) i ≡ row p at i
 annex-read-back p h = read-back (row p) (each-at 128 (λ p. reads-back (row p)) annex-test p h)
 
-pub v-within : (p i : ℕ) → Within 1 (v p i)
-unfolding v
-v-within p i = go (decLe 128 p)
+pub v-at : (p i : ℕ) → v p (i + 1) ≡ row p at i
+unfolding v _at_
+v-at p i = rw (add-one i)
+
+pub no-row-at : (p i : ℕ) → 128 ≤ p → row p at i ≡ pos 0
+unfolding _at_
+no-row-at p i h = rw (List·getD-eq-default annex-A "" {n = p} h)
+
+pub v-within : (p i : ℕ) → Within 1 (v p (i + 1))
+v-within p i = subst (Within 1) (sym (v-at p i)) (go (decLe 128 p))
   where
-    go : Dec (128 ≤ p) → Within 1 (row p at (i - 1))
-    go (yes g) = subst (λ (s : String). Within 1 (signs s at (i - 1))) (sym (past-end annex-A "" p g)) (nothing (i - 1))
-    go (no g) = row-within (row p) (each-at 128 (λ p. reads-back (row p)) annex-test p (lt-of-not-le g)) (i - 1)
+    go : Dec (128 ≤ p) → Within 1 (row p at i)
+    go (yes g) = subst (Within 1) (sym (no-row-at p i g)) (record { size = lit≤ tt })
+    go (no g) = row-within (row p) (each-at 128 (λ p. reads-back (row p)) annex-test p (lt-of-not-le g)) i
 
 leaf-test : T (each 16 (λ x. reads-back (code 16 x)))
 unfolding reads-back each same sign-bit _at_

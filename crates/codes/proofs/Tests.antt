@@ -10,13 +10,8 @@ use borrow.Author.Tests.{eq-eqb, ne-eqb}
 use lib.Dec.{T, eqb, eqb→eq, ltb, ltb→lt}
 use mir.Facts.{and-yes}
 use lib.IntN.{ℤ, pos, negsuc}
-use lib.ListN.{getD, length}
 use Rattle.codes.specs.Held.{NoneOf-after, NoneOf, from}
 use Rattle.codes.specs.Tree.{among}
-
-pub and-false : (t : Bool) → (t && false) ≡ false
-and-false true = refl
-and-false false = refl
 
 -- the test passes at each number below n
 unfoldable pub each : ℕ → (ℕ → Bool) → Bool
@@ -66,7 +61,7 @@ same→eq (negsuc m) (negsuc n) t = ap negsuc (eqb→eq m n t)
 same→eq (pos m) (negsuc n) t = absurd t
 same→eq (negsuc m) (pos n) t = absurd t
 
--- ---- past the last arm of a `match`, and past the end of a list
+-- ---- past the last arm of a `match`
 none-of-after : (A : Type 0) (ks : List ℕ) (x : ℕ) → NoneOf-after A ks x → A × (among x ks ≡ false)
 none-of-after A [] x h = (h, refl)
 none-of-after A (k ∷ ks) x h =
@@ -87,11 +82,6 @@ past-from k (suc n) x h e = go (ℕ-discrete x k) (past-from (suc k) n x)
 -- the last arm after the arms 0, 1, .., n - 1
 pub none-below : (n x : ℕ) → NoneOf (from 0 n) x → n ≤ x
 none-below n x h = let r : 0 + n ≤ x = past-from 0 n x (omega arith) (none-of (from 0 n) x h) in omega arith
-
-pub past-end : {A : Type 0} (l : List A) (d : A) (n : ℕ) → length l ≤ n → getD l n d ≡ d
-past-end [] d n h = refl
-past-end (x ∷ l) d zero h = absurd (omega arith)
-past-end (x ∷ l) d (suc n) h = past-end l d n (omega arith)
 
 -- ---- a number that is one of a list's
 pub T-true : (t : Bool) → T t → t ≡ true

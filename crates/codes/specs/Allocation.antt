@@ -1,6 +1,6 @@
 -- Document 01, "The sync burst": which codes a group sends, with which units (TS 25.223, tables 4 and 5).
 use lib.IntN.{ℤ, _*ℤ_}
-use Prim.Native.Nat.{ℕ, _+_, _-_, _/_, _%_}
+use Prim.Native.Nat.{ℕ, _+_, _/_, _%_}
 use mathlib.Core.List.{[], _∷_}
 use mathlib.Core.Bool.{Bool, _&&_, cond, not}
 use lib.Dec.{eqb, leb}
@@ -13,12 +13,12 @@ use Rattle.codes.specs.declared.burst.CodeSet.{CodeSet}
 use Rattle.codes.specs.Signs.{minus-if}
 use Rattle.codes.specs.Tree.{among}
 
--- Code sets (A, B, D): 1 is (1, 3, 5), 2 is (10, 13, 14), 3 is (0, 6, 12), 4 is (4, 8, 15).
+-- Code sets (A, B, D): 1 is (1, 3, 5), 2 is (10, 13, 14), 3 is (0, 6, 12), 4 is (4, 8, 15); there is no set 0.
 abbrev pub set-of : ℕ → ℕ → ℕ → CodeSet
 set-of A B D = record { a = A; b = B; d = D }
 
 unfoldable pub code-set : ℕ → CodeSet
-code-set n = getD (set-of 1 3 5 ∷ set-of 10 13 14 ∷ set-of 0 6 12 ∷ set-of 4 8 15 ∷ []) (n - 1) (set-of 0 0 0)
+code-set n = getD (set-of 0 0 0 ∷ set-of 1 3 5 ∷ set-of 10 13 14 ∷ set-of 0 6 12 ∷ set-of 4 8 15 ∷ []) n (set-of 0 0 0)
 
 -- a pair of codes with the unit of both, and the marker's code
 pub record Row : Type 0 where
@@ -69,9 +69,9 @@ case-2 g frame half =
 unfoldable pub one-or-two : ℕ → Bool
 one-or-two n = among n (1 ∷ 2 ∷ [])
 
--- Refusal 15 is for "frame not 1 or 2, half above 1, or half 1 in case 1": any other occasion is one.
-unfoldable pub is-occasion : ℕ → ℕ → ℕ → Bool
-is-occasion case frame half = one-or-two frame && not (leb 2 half) && not (eqb half 1 && eqb case 1)
+-- where refusal 15, "frame not 1 or 2, half above 1, or half 1 in case 1", is not given
+unfoldable pub is-frame-and-half : ℕ → ℕ → ℕ → Bool
+is-frame-and-half case frame half = one-or-two frame && not (leb 2 half) && not (eqb half 1 && eqb case 1)
 
 -- no code: what an allocation outside its range gives
 abbrev pub silent : Allocated
@@ -79,5 +79,5 @@ silent = record { first = with-unit 0 𝟎; second = with-unit 0 𝟎; marker = 
 
 unfoldable pub allocation : ℕ → ℕ → ℕ → ℕ → Allocated
 allocation case g frame half =
-    cond (not (leb 32 g) && one-or-two case && is-occasion case frame half)
+    cond (not (leb 32 g) && one-or-two case && is-frame-and-half case frame half)
     (cond (eqb case 1) (case-1 g frame) (case-2 g frame half)) silent

@@ -21,20 +21,20 @@ use Rattle.codes.specs.declared.AllocationAnswer.the-variants.{Codes, Re
 use Rattle.codes.specs.declared.StartAnswer.{StartAnswer}
 use Rattle.codes.specs.declared.StartAnswer.the-variants.{Start, Refused as NoStart}
 use Rattle.codes.specs.Refusals.{Answer, refused, gives, _if_, _otherwise_}
-use Rattle.codes.specs.Tree.{is-factor, element, related}
+use Rattle.codes.specs.Tree.{is-spreading-factor, element, related}
 use Rattle.codes.specs.Scrambling.{scrambling, code-group}
 use Rattle.codes.specs.SyncCodes.{Cp, C, is-sync-code}
-use Rattle.codes.specs.Allocation.{allocation, one-or-two, is-occasion}
+use Rattle.codes.specs.Allocation.{allocation, one-or-two, is-frame-and-half}
 use Rattle.codes.specs.Burst.{burst-start}
 
 -- element of a channelisation code
 abbrev pub element-call : ℕ → ℕ → ℕ → Answer ℤ
-element-call Q k chip = 3 if not (is-factor Q) ∷ 4 if leb Q k ∷ 16 if leb Q chip ∷ [] otherwise element Q k chip
+element-call Q k chip = 3 if not (is-spreading-factor Q) ∷ 4 if leb Q k ∷ 16 if leb Q chip ∷ [] otherwise element Q k chip
 
 -- related
 abbrev pub related-call : ℕ → ℕ → ℕ → ℕ → Answer Bool
 related-call Q k Q′ k′ =
-    3 if not (is-factor Q) ∷ 4 if leb Q k ∷ 3 if not (is-factor Q′) ∷ 4 if leb Q′ k′ ∷ [] otherwise related Q k Q′ k′
+    3 if not (is-spreading-factor Q) ∷ 4 if leb Q k ∷ 3 if not (is-spreading-factor Q′) ∷ 4 if leb Q′ k′ ∷ [] otherwise related Q k Q′ k′
 
 -- code group of a cell parameter
 abbrev pub code-group-call : ℕ → Answer ℕ
@@ -55,7 +55,7 @@ secondary-call i chip = 16 if not (is-sync-code i) ∷ 16 if leb 256 chip ∷ []
 -- allocation: three code numbers, each with its unit
 abbrev pub allocation-call : ℕ → ℕ → ℕ → ℕ → Answer Allocated
 allocation-call case g frame half =
-    1 if leb 32 g ∷ 14 if not (one-or-two case) ∷ 15 if not (is-occasion case frame half) ∷ []
+    1 if leb 32 g ∷ 14 if not (one-or-two case) ∷ 15 if not (is-frame-and-half case frame half) ∷ []
     otherwise allocation case g frame half
 
 -- burst start

@@ -1,7 +1,7 @@
 -- Document 01, "Codes and their tree" (TS 25.223, 6.3 and Annex A).
-use lib.IntN.{ℤ}
-use Prim.Native.Nat.{ℕ, _-_, _/_}
-use mathlib.Core.List.{List}
+use lib.IntN.{ℤ, pos}
+use Prim.Native.Nat.{ℕ, _/_}
+use mathlib.Core.List.{List, _∷_}
 use lib.ListN.{getD}
 use Rattle.complex.specs.declared.Complex.{Complex}
 use Rattle.complex.specs.Arithmetic.{real, _⊗_, j^}
@@ -12,9 +12,9 @@ use Rattle.codes.specs.AnnexA.{annex-A}
 abbrev pub row : ℕ → List ℤ
 row p = signs (getD annex-A p "")
 
--- vi, i from 1
+-- vi, i from 1; 0 for i 0
 unfoldable pub v : ℕ → ℕ → ℤ
-v p i = row p at (i - 1)
+v p i = (pos 0 ∷ row p) at i
 
 -- Its complex element i is j^i times vi, i from 1.
 unfoldable pub scrambling : ℕ → ℕ → Complex

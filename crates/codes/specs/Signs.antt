@@ -8,7 +8,7 @@ use mathlib.Core.Bool.{Bool, cond}
 use lib.Dec.{eqb}
 use lib.ListN.{getD}
 
--- '+' is 1, any other character is -1
+-- '+', whose code is 43, is 1; any other character is -1
 abbrev pub sign : Char → ℤ
 sign c = cond (eqb (code c) 43) (pos 1) (negsuc 0)
 

@@ -53,6 +53,7 @@ is-sync-code i = among i sync-codes
 unfoldable pub C : ℕ → ℕ → Complex
 C i n = cond (is-sync-code i) (real (z n *ℤ hadamard (16 * i) n) ⊗ (pos 1 +j pos 1)) 𝟎
 
--- ---- the codes by parts of 16 chips: element i, part m of row 16i of the matrix, the same at each of its 16 chips; 0 outside 16 x 16
+-- ---- the codes by parts of 16 chips
+-- the sign of row 16i of the matrix over part m, chips 16m to 16m + 15, where it does not change; 0 where i or m is above 15
 unfoldable pub hadamard-part : ℕ → ℕ → ℤ
 hadamard-part i m = cond (ltb i 16 && ltb m 16) (hadamard (16 * i) (16 * m)) (pos 0)

@@ -12,14 +12,14 @@ among n [] = false
 among n (m ∷ ms) = cond (eqb n m) true (among n ms)
 
 -- A code is (Q, k): spreading factor Q in 1, 2, 4, 8, 16 and index k from 0 to Q-1.
-abbrev pub factors : List ℕ
-factors = 1 ∷ 2 ∷ 4 ∷ 8 ∷ 16 ∷ []
+abbrev pub spreading-factors : List ℕ
+spreading-factors = 1 ∷ 2 ∷ 4 ∷ 8 ∷ 16 ∷ []
 
-abbrev pub is-factor : ℕ → Bool
-is-factor Q = among Q factors
+abbrev pub is-spreading-factor : ℕ → Bool
+is-spreading-factor Q = among Q spreading-factors
 
 abbrev pub is-code : ℕ → ℕ → Bool
-is-code Q k = is-factor Q && ltb k Q
+is-code Q k = is-spreading-factor Q && ltb k Q
 
 -- the level of a spreading factor in the tree: Q is 2 to the power of its level
 abbrev pub level : ℕ → ℕ
@@ -56,7 +56,7 @@ related Q k Q′ k′ = is-code Q k && is-code Q′ k′ && (at-or-above Q k Q�
 -- ---- the tree seen from its leaves, the sixteen codes of Q 16; the law `related-overlap` joins it to the above
 -- how many leaves lie below a code of factor Q; 0 where Q is no factor
 abbrev pub width : ℕ → ℕ
-width Q = cond (is-factor Q) (16 / Q) 0
+width Q = cond (is-spreading-factor Q) (16 / Q) 0
 
 -- the intervals [k·16/Q, (k+1)·16/Q) of two codes overlap
 unfoldable pub overlap : ℕ → ℕ → ℕ → ℕ → Bool

@@ -5,7 +5,7 @@ ghost use Prim.Native.Nat.{_<_};
 ghost use lib.Dec.{leb};
 ghost use Rattle.complex.specs.Arithmetic.{real, 𝟏, 𝐣, _⊗_};
 ghost use Rattle.codes.specs.Signs.{minus-if};
-ghost use Rattle.codes.specs.Allocation.{allocation, case-1, case-2, code-set, is-occasion, one-or-two, row as row-of, signed, silent, with-unit};
+ghost use Rattle.codes.specs.Allocation.{allocation, case-1, case-2, code-set, is-frame-and-half, one-or-two, row as row-of, signed, silent, with-unit};
 ghost use Rattle.codes.specs.Burst.{burst-start};
 use crate::Allocated;
 use crate::CodeGroup;
@@ -23,8 +23,8 @@ pub fn one_or_two(n: u32) -> bool
 }
 
 // Frame 1 or 2, half 0 or 1, and half 0 alone in case 1.
-pub fn is_occasion(case: u32, frame: u32, half: u32) -> bool
-    ensures { λ r. ⌜ r ≡ is-occasion case frame half ⌝ }
+pub fn is_frame_and_half(case: u32, frame: u32, half: u32) -> bool
+    ensures { λ r. ⌜ r ≡ is-frame-and-half case frame half ⌝ }
 {
     if !one_or_two(frame) {
         return false;
@@ -139,7 +139,7 @@ pub fn allocated(case: u32, group: CodeGroup, frame: u32, half: u32) -> Allocate
     if 32 <= group.0 {
         return silent();
     }
-    if !is_occasion(case, frame, half) {
+    if !is_frame_and_half(case, frame, half) {
         return silent();
     }
     match case {

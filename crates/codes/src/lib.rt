@@ -1,6 +1,6 @@
 // The code rules of TS 25.223 V3.3.0 as a unit of their own: channelisation codes, scrambling codes, sync codes.
 // The eight calls here take any numbers and refuse by document 01's number. The modules hold the functions that
-// the crates above call for each chip or block: they are total, and give 0 outside their range.
+// the crates above call for each chip or block: they are total, and give 0 outside their range (`group_of`: p div 4).
 ghost use mathlib.Core.Path.{_≡_};
 ghost use Rattle.codes.specs.Calls.{element-call, related-call, code-group-call, scrambling-call, primary-call, secondary-call, allocation-call, burst-start-call, told-element, told-related, told-group, told-chip, told-allocation, told-start};
 use complex::Complex;
@@ -75,23 +75,23 @@ pub fn element(q: u32, k: u32, chip: u32) -> ElementAnswer
     ElementAnswer::Element(tree::code_sign(q, k, chip))
 }
 
-// Whether codes (q, k) and (p, l) are related. Refuses 3 and 4 of the first, then 3 and 4 of the second.
-pub fn related(q: u32, k: u32, p: u32, l: u32) -> RelatedAnswer
-    ensures { λ r. ⌜ told-related r ≡ related-call q k p l ⌝ }
+// Whether codes (q1, k1) and (q2, k2) are related. Refuses 3 and 4 of the first, then 3 and 4 of the second.
+pub fn related(q1: u32, k1: u32, q2: u32, k2: u32) -> RelatedAnswer
+    ensures { λ r. ⌜ told-related r ≡ related-call q1 k1 q2 k2 ⌝ }
 {
-    if tree::width(q) == 0 {
+    if tree::width(q1) == 0 {
         return RelatedAnswer::Refused(3);
     }
-    if q <= k {
+    if q1 <= k1 {
         return RelatedAnswer::Refused(4);
     }
-    if tree::width(p) == 0 {
+    if tree::width(q2) == 0 {
         return RelatedAnswer::Refused(3);
     }
-    if p <= l {
+    if q2 <= k2 {
         return RelatedAnswer::Refused(4);
     }
-    RelatedAnswer::Related(tree::is_related(q, k, p, l))
+    RelatedAnswer::Related(tree::is_related(q1, k1, q2, k2))
 }
 
 // The code group of a cell parameter. Refuses 1 parameter above 127.
@@ -131,7 +131,7 @@ pub fn primary_chip(chip: u32) -> ChipAnswer
 pub fn secondary_chip(number: u32, n: u32) -> ChipAnswer
     ensures { λ r. ⌜ told-chip r ≡ secondary-call number n ⌝ }
 {
-    if !sync::is_code(number) {
+    if !sync::is_sync_code(number) {
         return ChipAnswer::Refused(16);
     }
     if 256 <= n {
@@ -151,7 +151,7 @@ pub fn allocation(case: u32, group: CodeGroup, frame: u32, half: u32) -> Allocat
     if !burst::one_or_two(case) {
         return AllocationAnswer::Refused(14);
     }
-    if !burst::is_occasion(case, frame, half) {
+    if !burst::is_frame_and_half(case, frame, half) {
         return AllocationAnswer::Refused(15);
     }
     AllocationAnswer::Codes(burst::allocated(case, group, frame, half))

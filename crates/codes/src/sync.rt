@@ -51,7 +51,7 @@ pub fn hadamard_sign(i: u32, m: u32) -> i32
 }
 
 // Whether a secondary code has number i.
-pub fn is_code(i: u32) -> bool
+pub fn is_sync_code(i: u32) -> bool
     ensures { λ r. ⌜ r ≡ is-sync-code i ⌝ }
 {
     match i {
@@ -75,15 +75,15 @@ pub fn is_code(i: u32) -> bool
 pub fn primary(n: u32) -> Complex
     ensures { λ r. ⌜ r ≡ Cp n ⌝ }
 {
-    complex::diagonal(a_repeat(n / 16) * a_sign(n % 16))
+    complex::times_one_plus_j(a_repeat(n / 16) * a_sign(n % 16))
 }
 
 // Chip n of secondary code i; 0 for a number that is not listed and past the code's end.
 pub fn secondary(i: u32, n: u32) -> Complex
     ensures { λ r. ⌜ r ≡ C i n ⌝ }
 {
-    if !is_code(i) {
+    if !is_sync_code(i) {
         return Complex { re: 0, im: 0 };
     }
-    complex::diagonal(b_repeat(n / 16) * b_sign(n % 16) * hadamard_sign(i, n / 16))
+    complex::times_one_plus_j(b_repeat(n / 16) * b_sign(n % 16) * hadamard_sign(i, n / 16))
 }

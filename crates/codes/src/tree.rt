@@ -69,19 +69,21 @@ pub fn code_sign(q: u32, k: u32, n: u32) -> i32
     sign_at(leaf(k * w), n)
 }
 
-// Whether codes (q, k) and (p, l) are related, that is, whether the intervals of leaves below them overlap.
-pub fn is_related(q: u32, k: u32, p: u32, l: u32) -> bool
-    ensures { λ r. ⌜ r ≡ related q k p l ⌝ }
+// Whether codes (q1, k1) and (q2, k2) are related, that is, whether the intervals of leaves below them overlap.
+pub fn is_related(q1: u32, k1: u32, q2: u32, k2: u32) -> bool
+    ensures { λ r. ⌜ r ≡ related q1 k1 q2 k2 ⌝ }
 {
-    if q <= k {
+    if q1 <= k1 {
         return false;
     }
-    if p <= l {
+    if q2 <= k2 {
         return false;
     }
-    let w = width(q);
-    let v = width(p);
-    let x = k * w;
-    let y = l * v;
-    if x < y + v { y < x + w } else { false }
+    let w1 = width(q1);
+    let w2 = width(q2);
+    let from1 = k1 * w1;
+    let to1 = from1 + w1;
+    let from2 = k2 * w2;
+    let to2 = from2 + w2;
+    if from1 < to2 { from2 < to1 } else { false }
 }

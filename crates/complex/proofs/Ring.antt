@@ -97,9 +97,9 @@ pub conj-real : (x : ℤ) → conj (real x) ≡ real x
 unfolding real conj
 conj-real x = refl
 
-pub real-diagonal : (x : ℤ) → real x ⊗ (pos 1 +j pos 1) ≡ x +j x
+pub real-one-plus-j : (x : ℤ) → real x ⊗ (pos 1 +j pos 1) ≡ x +j x
 unfolding real _⊗_
-real-diagonal x = by-components by by
+real-one-plus-j x = by-components by by
   where
     by : x *ℤ pos 1 +ℤ pos 0 ≡ x
     by = simp (*ℤ-pos-one, +ℤ-idr)

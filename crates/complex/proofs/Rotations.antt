@@ -5,9 +5,9 @@ use native.Mathlib.Nat.{zero-add, suc-add, div-add-mod'}
 use native.Mathlib.Omega.{arith}
 use lib.IntN.{ℤ, pos, negℤ, _+ℤ_, _*ℤ_, negℤ-negℤ}
 use Rattle.complex.specs.declared.Complex.{Complex}
-use Rattle.complex.specs.Arithmetic.{_+j_, 𝟏, 𝐣, _⊗_, conj, j^}
+use Rattle.complex.specs.Arithmetic.{_+j_, 𝟏, 𝐣, _⊗_, j^}
 use Rattle.complex.proofs.Integers.{ring}
-use Rattle.complex.proofs.Ring.{by-components, products, 𝟏-⊗, ⊗-𝟏, ⊗-assoc, conj-⊗}
+use Rattle.complex.proofs.Ring.{by-components, 𝟏-⊗, ⊗-𝟏, ⊗-assoc}
 
 -- times j
 pub 𝐣-⊗ : (x : Complex) → 𝐣 ⊗ x ≡ negℤ (x .im) +j x .re
@@ -40,29 +40,6 @@ j^-4s (suc m) n = ap j^ e ∙ j^-+ 4 (m * 4 + n) ∙ rw (four, 𝟏-⊗) (j^-4s 
 
 pub j^-% : (n : ℕ) → j^ (n % 4) ≡ j^ n
 j^-% n = sym (j^-4s (n / 4) (n % 4)) ∙ ap j^ (div-add-mod' n 4)
-
--- a unit: its product with its conjugate is 1
-pub record Unit-size (u : Complex) : Type 0 where
-  pub unit : u ⊗ conj u ≡ 𝟏
-
-pub unit-⊗ : {x y : Complex} → Unit-size x → Unit-size y → Unit-size (x ⊗ y)
-unit-⊗ {x} {y} p q = record { unit = arrange x y ∙ rw (p .unit, q .unit, 𝟏-⊗) }
-  where
-    arrange : (x y : Complex) → (x ⊗ y) ⊗ conj (x ⊗ y) ≡ (x ⊗ conj x) ⊗ (y ⊗ conj y)
-    arrange x y = simp (conj-⊗, products)
-
-𝐣-unit : Unit-size 𝐣
-unfolding 𝐣 𝟏 _⊗_ conj
-𝐣-unit = record { unit = refl }
-
-𝟏-unit : Unit-size 𝟏
-unfolding 𝟏 _⊗_ conj
-𝟏-unit = record { unit = refl }
-
-pub j^-unit : (n : ℕ) → Unit-size (j^ n)
-unfolding j^
-j^-unit zero = 𝟏-unit
-j^-unit (suc n) = unit-⊗ 𝐣-unit (j^-unit n)
 
 -- the product with a power of j is a rotation, by the power modulo 4
 module _ (n : ℕ) (x : Complex) where

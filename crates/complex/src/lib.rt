@@ -1,4 +1,4 @@
-// Whole-number complex values, 32 bits a component, and the operations that the code rules need.
+// Whole-number complex values, 32 bits a component, and the operations that the crates above need.
 ghost use mathlib.Core.Path.{_≡_};
 ghost use lib.IntN.{pos, negℤ};
 ghost use Rattle.complex.specs.Arithmetic.{_+j_, _⊕_, _⊗_, real, j^};
@@ -44,8 +44,8 @@ impl Complex {
     }
 }
 
-// x times 1 + j.
-pub fn diagonal(x: i32) -> Complex
+// x times 1 + j, the form of every sync chip.
+pub fn times_one_plus_j(x: i32) -> Complex
     ensures { λ r. ⌜ r ≡ real x ⊗ (pos 1 +j pos 1) ⌝ }
 {
     Complex { re: x, im: x }

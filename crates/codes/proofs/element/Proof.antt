@@ -7,13 +7,13 @@ use mir.Syntax.{w32}
 use mir.Val.{SFits}
 use mir.Facts.{toZ-ofZ}
 use Rattle.codes.specs.Refusals.{gives}
-use Rattle.codes.specs.Tree.{is-factor}
+use Rattle.codes.specs.Tree.{is-spreading-factor}
 use Rattle.codes.proofs.Leaves.{no-width, some-width}
 use Rattle.codes.proofs.element.Statement.{statement}
 use Rattle.codes.proofs.element.Tie as tie
 
 -- Q passed its test
-factor : (c : tie.Else1) → is-factor (c .before .before .args .q) ≡ true
+factor : (c : tie.Else1) → is-spreading-factor (c .before .before .args .q) ≡ true
 factor c = some-width (c .before .before .args .q) (λ z. c .if1 .left (c .before .width .ensures ∙ z))
 
 width-requires : tie.Need-width-requires

@@ -4,26 +4,26 @@ use borrow.Author.Needs.{needs}
 use borrow.Author.Tests.{le-leb, lt-leb}
 use mathlib.Core.Bool.{true}
 use Rattle.codes.specs.Refusals.{gives}
-use Rattle.codes.specs.Tree.{is-factor}
+use Rattle.codes.specs.Tree.{is-spreading-factor}
 use Rattle.codes.proofs.Leaves.{no-width, some-width}
 use Rattle.codes.proofs.related.Statement.{statement}
 use Rattle.codes.proofs.related.Tie as tie
 
--- the spreading factors passed their tests
-first-factor : (c : tie.Else1) → is-factor (c .before .before .args .q) ≡ true
-first-factor c = some-width (c .before .before .args .q) (λ z. c .if1 .left (c .before .width .ensures ∙ z))
+-- the spreading spreading-factors passed their tests
+first-factor : (c : tie.Else1) → is-spreading-factor (c .before .before .args .q1) ≡ true
+first-factor c = some-width (c .before .before .args .q1) (λ z. c .if1 .left (c .before .width .ensures ∙ z))
 
-second-factor : (c : tie.Else3) → is-factor (c .before .before .before .before .before .args .p) ≡ true
-second-factor c = some-width (c .before .before .before .before .before .args .p) (λ z. c .if3 .left (c .before .width2 .ensures ∙ z))
+second-factor : (c : tie.Else3) → is-spreading-factor (c .before .before .before .before .before .args .q2) ≡ true
+second-factor c = some-width (c .before .before .before .before .before .args .q2) (λ z. c .if3 .left (c .before .width2 .ensures ∙ z))
 
 width-requires : tie.Need-width-requires
 width-requires c κs = search needs
 
 returns : tie.Need-returns
-returns c = rw (no-width (c .before .before .args .q) (sym (c .before .width .ensures) ∙ c .if1 .taken))
+returns c = rw (no-width (c .before .before .args .q1) (sym (c .before .width .ensures) ∙ c .if1 .taken))
 
 returns-2 : tie.Need-returns-2
-returns-2 c = let s = c .before .before .before .args in rw (first-factor (c .before), le-leb (s .q) (s .k) (c .if2 .taken))
+returns-2 c = let s = c .before .before .before .args in rw (first-factor (c .before), le-leb (s .q1) (s .k1) (c .if2 .taken))
 
 width-requires-2 : tie.Need-width-requires-2
 width-requires-2 c κs = search needs
@@ -33,8 +33,8 @@ returns-3 c =
     let s = c .before .before .before .before .before .args in
     rw (
       first-factor (c .before .before .before),
-      lt-leb (s .q) (s .k) (c .before .before .if2 .left),
-      no-width (s .p) (sym (c .before .width2 .ensures) ∙ c .if3 .taken),
+      lt-leb (s .q1) (s .k1) (c .before .before .if2 .left),
+      no-width (s .q2) (sym (c .before .width2 .ensures) ∙ c .if3 .taken),
     )
 
 returns-4 : tie.Need-returns-4
@@ -42,9 +42,9 @@ returns-4 c =
     let s = c .before .before .before .before .before .before .args in
     rw (
       first-factor (c .before .before .before .before),
-      lt-leb (s .q) (s .k) (c .before .before .before .if2 .left),
+      lt-leb (s .q1) (s .k1) (c .before .before .before .if2 .left),
       second-factor (c .before),
-      le-leb (s .p) (s .l) (c .if4 .taken),
+      le-leb (s .q2) (s .k2) (c .if4 .taken),
     )
 
 is-related-requires : tie.Need-is-related-requires
@@ -55,9 +55,9 @@ returns-5 c =
     let s = c .before .before .before .before .before .before .before .args in
     rw (
       first-factor (c .before .before .before .before .before),
-      lt-leb (s .q) (s .k) (c .before .before .before .before .if2 .left),
+      lt-leb (s .q1) (s .k1) (c .before .before .before .before .if2 .left),
       second-factor (c .before .before),
-      lt-leb (s .p) (s .l) (c .before .if4 .left),
+      lt-leb (s .q2) (s .k2) (c .before .if4 .left),
     ) (ap gives (c .is-related .ensures))
 
 pub related-spec : {M : Type 1} → statement M

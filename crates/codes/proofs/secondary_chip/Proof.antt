@@ -10,13 +10,13 @@ use Rattle.codes.proofs.secondary_chip.Tie as tie
 
 -- the number is listed
 listed : (c : tie.Else1) → is-sync-code (c .before .before .args .number) ≡ true
-listed c = sym (c .before .is-code .ensures) ∙ not-false (c .before .is-code .result) (c .if1 .left)
+listed c = sym (c .before .is-sync-code .ensures) ∙ not-false (c .before .is-sync-code .result) (c .if1 .left)
 
-is-code-requires : tie.Need-is-code-requires
-is-code-requires c κs = search needs
+is-sync-code-requires : tie.Need-is-sync-code-requires
+is-sync-code-requires c κs = search needs
 
 returns : tie.Need-returns
-returns c = rw (sym (c .before .is-code .ensures) ∙ not-true (c .before .is-code .result) (c .if1 .taken))
+returns c = rw (sym (c .before .is-sync-code .ensures) ∙ not-true (c .before .is-sync-code .result) (c .if1 .taken))
 
 returns-2 : tie.Need-returns-2
 returns-2 c = rw (listed (c .before), le-leb 256 (c .before .before .before .args .n) (c .if2 .taken))
@@ -29,4 +29,4 @@ returns-3 c =
     rw (listed (c .before .before), lt-leb 256 (c .before .before .before .before .args .n) (c .before .if2 .left)) (ap gives (c .secondary .ensures))
 
 pub secondary-chip-spec : {M : Type 1} → statement M
-secondary-chip-spec = tie.close (tie.spec is-code-requires returns returns-2 secondary-requires returns-3)
+secondary-chip-spec = tie.close (tie.spec is-sync-code-requires returns returns-2 secondary-requires returns-3)

@@ -28,7 +28,7 @@ add-rotated c = search needs
 
 rotated-requires : tie.Need-rotated-requires
 rotated-requires c κs =
-    let h : Within 1 (toZ w32 (ofZ w32 (c .sign .result))) = subst (Within 1) (sym (sign-is c)) (v-within (c .before .args .p .0) (c .before .args .i + 1)) in
+    let h : Within 1 (toZ w32 (ofZ w32 (c .sign .result))) = subst (Within 1) (sym (sign-is c)) (v-within (c .before .args .p .0) (c .before .args .i)) in
     let z : Within 0 (pos 0) = record { size = lit≤ tt } in
     record { re = fits-within (within-neg h) tt; im = fits-within z tt }
 

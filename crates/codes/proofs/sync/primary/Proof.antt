@@ -30,14 +30,14 @@ a-repeat-requires c κs = search needs
 a-sign-requires : tie.Need-a-sign-requires
 a-sign-requires c κs = search needs
 
-mul-diagonal : tie.Need-mul-diagonal
-mul-diagonal c =
+mul-times-one-plus-j : tie.Need-mul-times-one-plus-j
+mul-times-one-plus-j c =
     let f : SFits w32 (c .before .a-repeat .result) = search needs in
     let g : SFits w32 (c .a-sign .result) = search needs in
     mul-asks f g (product-fits c)
 
-diagonal-requires : tie.Need-diagonal-requires
-diagonal-requires c κs = search needs
+times-one-plus-j-requires : tie.Need-times-one-plus-j-requires
+times-one-plus-j-requires c κs = search needs
 
 returns : tie.Need-returns
 unfolding Cp repeated
@@ -45,8 +45,8 @@ returns c =
     let d = c .before in
     let f : SFits w32 (d .before .a-repeat .result) = search needs in
     let g : SFits w32 (d .a-sign .result) = search needs in
-    c .diagonal .ensures
+    c .times-one-plus-j .ensures
     ∙ ap (λ (x : ℤ). real x ⊗ (pos 1 +j pos 1)) (mul-gives f g (product-fits d) ∙ ap₂ _*ℤ_ (d .before .a-repeat .ensures) (d .a-sign .ensures))
 
 pub primary-spec : {M : Type 1} → statement M
-primary-spec = tie.close (tie.spec a-repeat-requires a-sign-requires mul-diagonal diagonal-requires returns)
+primary-spec = tie.close (tie.spec a-repeat-requires a-sign-requires mul-times-one-plus-j times-one-plus-j-requires returns)

@@ -49,12 +49,12 @@ product-fits c =
     let h : Within 1 (c .hadamard-sign .result) = subst (Within 1) (sym (c .hadamard-sign .ensures)) (hadamard-part-within (s .args .i) (s .args .n / 16)) in
     fits-within (within-mul (pair-within (c .before)) h) tt
 
-is-code-requires : tie.Need-is-code-requires
-is-code-requires c κs = search needs
+is-sync-code-requires : tie.Need-is-sync-code-requires
+is-sync-code-requires c κs = search needs
 
 returns : tie.Need-returns
 unfolding C 𝟎
-returns c = rw (sym (c .before .is-code .ensures) ∙ not-true (c .before .is-code .result) (c .if1 .taken))
+returns c = rw (sym (c .before .is-sync-code .ensures) ∙ not-true (c .before .is-sync-code .result) (c .if1 .taken))
 
 b-repeat-requires : tie.Need-b-repeat-requires
 b-repeat-requires c κs = search needs
@@ -62,8 +62,8 @@ b-repeat-requires c κs = search needs
 b-sign-requires : tie.Need-b-sign-requires
 b-sign-requires c κs = search needs
 
-mul-diagonal : tie.Need-mul-diagonal
-mul-diagonal c =
+mul-times-one-plus-j : tie.Need-mul-times-one-plus-j
+mul-times-one-plus-j c =
     let f : SFits w32 (c .before .b-repeat .result) = search needs in
     let g : SFits w32 (c .b-sign .result) = search needs in
     mul-asks f g (pair-fits c)
@@ -71,13 +71,13 @@ mul-diagonal c =
 hadamard-sign-requires : tie.Need-hadamard-sign-requires
 hadamard-sign-requires c κs = search needs
 
-mul-diagonal-2 : tie.Need-mul-diagonal-2
-mul-diagonal-2 c =
+mul-times-one-plus-j-2 : tie.Need-mul-times-one-plus-j-2
+mul-times-one-plus-j-2 c =
     let h : SFits w32 (c .hadamard-sign .result) = search needs in
     rw (pair-gives (c .before), toZ-ofZ h) (product-fits c)
 
-diagonal-requires : tie.Need-diagonal-requires
-diagonal-requires c κs = search needs
+times-one-plus-j-requires : tie.Need-times-one-plus-j-requires
+times-one-plus-j-requires c κs = search needs
 
 returns-2 : tie.Need-returns-2
 returns-2 c =
@@ -85,11 +85,11 @@ returns-2 c =
     let s = d .before .before .before .before .before in
     let n = s .args .n in
     let t : T (is-sync-code (s .args .i)) =
-    subst T (sym (sym (d .before .before .before .before .is-code .ensures) ∙ not-false (d .before .before .before .before .is-code .result) (d .before .before .before .if1 .left))) tt in
+    subst T (sym (sym (d .before .before .before .before .is-sync-code .ensures) ∙ not-false (d .before .before .before .before .is-sync-code .result) (d .before .before .before .if1 .left))) tt in
     let h : SFits w32 (d .hadamard-sign .result) = search needs in
-    c .diagonal .ensures
+    c .times-one-plus-j .ensures
     ∙ ap (λ (x : ℤ). real x ⊗ (pos 1 +j pos 1))
-    (toZ-ofZ (mul-diagonal-2 d)
+    (toZ-ofZ (mul-times-one-plus-j-2 d)
     ∙ ap₂ _*ℤ_ (pair-gives (d .before) ∙ ap₂ _*ℤ_ (d .before .before .b-repeat .ensures) (d .before .b-sign .ensures)) (toZ-ofZ h ∙ d .hadamard-sign .ensures))
     ∙ sym (C-parts (n / 16) (n % 16) (omega arith) (s .args .i) t)
     ∙ ap (C (s .args .i)) (div-add-mod' n 16)
@@ -97,4 +97,4 @@ returns-2 c =
 pub secondary-spec : {M : Type 1} → statement M
 secondary-spec =
     tie.close
-    (tie.spec is-code-requires returns b-repeat-requires b-sign-requires mul-diagonal hadamard-sign-requires mul-diagonal-2 diagonal-requires returns-2)
+    (tie.spec is-sync-code-requires returns b-repeat-requires b-sign-requires mul-times-one-plus-j hadamard-sign-requires mul-times-one-plus-j-2 times-one-plus-j-requires returns-2)

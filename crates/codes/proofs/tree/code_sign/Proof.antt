@@ -9,7 +9,7 @@ use mir.Val.{SFits}
 use mir.Facts.{toZ-ofZ, fits-below}
 use Rattle.codes.specs.Signs.{_at_}
 use Rattle.codes.specs.Held.{sign-bit}
-use Rattle.codes.specs.Tree.{is-factor, code}
+use Rattle.codes.specs.Tree.{is-spreading-factor, code}
 use Rattle.codes.proofs.Leaves.{not-below, not-factor, no-code, past-code, no-width, some-width, leaves-within, leaf-row, begins-with}
 use Rattle.codes.proofs.tree.code_sign.Statement.{statement}
 use Rattle.codes.proofs.tree.code_sign.Tie as tie
@@ -50,7 +50,7 @@ returns-4 c =
     let w = e .before .width .result in
     let b : s .k * w + w ≤ 16 = leaf-bound e in
     let x : s .k * w < 16 = omega (arith, b, e .if3 .left) in
-    let q : T (is-factor (s .q)) = subst T (sym (some-width (s .q) (λ z. e .if3 .left (e .before .width .ensures ∙ z)))) tt in
+    let q : T (is-spreading-factor (s .q)) = subst T (sym (some-width (s .q) (λ z. e .if3 .left (e .before .width .ensures ∙ z)))) tt in
     let f : SFits w32 (c .sign-at .result) = search needs in
     toZ-ofZ f ∙ c .sign-at .ensures ∙ ap (λ (r : ℕ). sign-bit r (s .n)) (c .before .leaf .ensures) ∙ leaf-row (s .k * w) x (s .n)
     ∙ ap (λ (v : ℕ). code 16 (s .k * v) at s .n) (e .before .width .ensures)

@@ -1,6 +1,6 @@
 -- `width` meets its contract: each number's arm computes, and the last arm is none of the numbers. Assumes nothing.
 use mathlib.Core.Path.{sym, ap}
-use Rattle.codes.specs.Tree.{factors, width}
+use Rattle.codes.specs.Tree.{spreading-factors, width}
 use Rattle.codes.proofs.Tests.{none-of}
 use Rattle.codes.proofs.tree.width.Statement.{statement}
 use Rattle.codes.proofs.tree.width.Tie as tie
@@ -14,4 +14,4 @@ width-spec =
     (λ c. sym (ap width (c .match .keys3)))
     (λ c. sym (ap width (c .match .keys4)))
     (λ c. sym (ap width (c .match .keys5)))
-    (λ c. rw (none-of factors (c .before .args .q) (c .match .rest))))
+    (λ c. rw (none-of spreading-factors (c .before .args .q) (c .match .rest))))

@@ -1,13 +1,13 @@
--- `is_code` meets its contract: each number's arm computes, and the last arm is none of the numbers. Assumes nothing.
+-- `is_sync_code` meets its contract: each number's arm computes, and the last arm is none of the numbers. Assumes nothing.
 use mathlib.Core.Path.{sym, ap}
 use Rattle.codes.specs.SyncCodes.{sync-codes, is-sync-code}
 use Rattle.codes.proofs.Tests.{none-of}
-use Rattle.codes.proofs.sync.is_code.Statement.{statement}
-use Rattle.codes.proofs.sync.is_code.Tie as tie
+use Rattle.codes.proofs.sync.is_sync_code.Statement.{statement}
+use Rattle.codes.proofs.sync.is_sync_code.Tie as tie
 
-pub is-code-spec : {M : Type 1} → statement M
+pub is-sync-code-spec : {M : Type 1} → statement M
 unfolding is-sync-code
-is-code-spec =
+is-sync-code-spec =
     tie.close
     (tie.spec
     (λ c. sym (ap is-sync-code (c .match .keys1)))
