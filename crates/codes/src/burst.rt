@@ -12,6 +12,7 @@ use crate::CodeGroup;
 use crate::ModulatedCode;
 use complex::Complex;
 
+// Whether n is 1 or 2, as a case and a frame must be.
 pub fn one_or_two(n: u32) -> bool
     ensures { λ r. ⌜ r ≡ one-or-two n ⌝ }
 {
@@ -42,6 +43,7 @@ pub struct CodeSet {
     pub d: u32,
 }
 
+// Code set n of the four.
 fn code_set(n: u32) -> CodeSet
     requires { ⌜ (0 < n) × (n < 5) ⌝ }
     ensures { λ r. ⌜ r ≡ code-set n ⌝ }
@@ -104,6 +106,7 @@ fn arranged(row: u32, set: CodeSet, first: bool, second: bool, marker: bool) -> 
     }
 }
 
+// The codes of group g in case 1.
 fn case_1(g: u32, frame: u32) -> Allocated
     requires { ⌜ g < 32 ⌝ }
     ensures { λ r. ⌜ r ≡ case-1 g frame ⌝ }
@@ -118,6 +121,7 @@ fn case_1(g: u32, frame: u32) -> Allocated
     )
 }
 
+// The codes of group g in case 2.
 fn case_2(g: u32, frame: u32, half: u32) -> Allocated
     requires { ⌜ g < 32 ⌝ }
     ensures { λ r. ⌜ r ≡ case-2 g frame half ⌝ }
@@ -149,6 +153,7 @@ pub fn allocated(case: u32, group: CodeGroup, frame: u32, half: u32) -> Allocate
     }
 }
 
+// Three codes with units of 0: nothing is sent.
 fn silent() -> Allocated
     ensures { λ r. ⌜ r ≡ silent ⌝ }
 {

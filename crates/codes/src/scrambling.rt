@@ -8,12 +8,14 @@ use crate::CodeGroup;
 use crate::signs::sign_at;
 use complex::Complex;
 
+// The code group of a cell parameter, for any number.
 pub fn group_of(p: CellParameter) -> CodeGroup
     ensures { λ r. ⌜ r .0 ≡ code-group (p .0) ⌝ }
 {
     CodeGroup(p.0 / 4)
 }
 
+// What the last arm of `annex_row` gives: Annex A has 128 rows.
 fn no_row(p: u32) -> u32
     requires { ⌜ NoneOf (from 0 128) p ⌝ }
     ensures { λ r. ⌜ r ≡ packed (row p) ⌝ }

@@ -19,6 +19,7 @@ pub fn width(q: u32) -> u32
     }
 }
 
+// What the last arm of `leaf` gives: the tree has sixteen leaves.
 fn no_leaf(x: u32) -> u32
     requires { ⌜ NoneOf (from 0 16) x ⌝ }
     ensures { λ r. ⌜ r ≡ getD leaf-rows x 0 ⌝ }
