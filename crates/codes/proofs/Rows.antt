@@ -17,6 +17,7 @@ use Rattle.codes.specs.Held.{packed, sign-bit}
 use Rattle.codes.specs.AnnexA.{annex-A}
 use Rattle.codes.specs.Scrambling.{row, v}
 use Rattle.codes.specs.Tree.{code}
+use Rattle.codes.specs.SyncCodes.{a, a-signs, b, b-signs}
 use Rattle.codes.proofs.Tests.{each, each-at, same, same→eq}
 
 -- the row has 16 signs, and each is read back from the binary number
@@ -59,7 +60,7 @@ sign-within r i = go (ltb 15 i)
 pub row-within : (l : List ℤ) → T (reads-back l) → (i : ℕ) → Within 1 (l at i)
 row-within l t i = subst (Within 1) (read-back l t i) (sign-within (packed l) i)
 
--- the rows of Annex A, and the codes of Q 16
+-- the rows of Annex A
 annex-test : T (each 128 (λ p. reads-back (row p)))
 unfolding reads-back each same sign-bit _at_
 annex-test = tt
@@ -82,6 +83,24 @@ v-within p i = subst (Within 1) (sym (v-at p i)) (go (decLe 128 p))
     go (yes g) = subst (Within 1) (sym (no-row-at p i g)) (record { size = lit≤ tt })
     go (no g) = row-within (row p) (each-at 128 (λ p. reads-back (row p)) annex-test p (lt-of-not-le g)) i
 
+-- the sequences of the sync codes
+pub a-test : T (reads-back a)
+unfolding reads-back each same sign-bit _at_
+a-test = tt
+
+pub a-signs-test : T (reads-back a-signs)
+unfolding reads-back each same sign-bit _at_
+a-signs-test = tt
+
+pub b-test : T (reads-back b)
+unfolding reads-back each same sign-bit _at_
+b-test = tt
+
+pub b-signs-test : T (reads-back b-signs)
+unfolding reads-back each same sign-bit _at_
+b-signs-test = tt
+
+-- the codes of Q 16
 leaf-test : T (each 16 (λ x. reads-back (code 16 x)))
 unfolding reads-back each same sign-bit _at_
 leaf-test = tt

@@ -4,11 +4,8 @@ use borrow.Author.Needs.{needs}
 use mir.Syntax.{w32}
 use mir.Val.{SFits}
 use mir.Facts.{toZ-ofZ}
-use Rattle.codes.specs.Signs.{_at_}
-use Rattle.codes.specs.Held.{sign-bit}
 use Rattle.codes.specs.SyncCodes.{b}
-use Rattle.codes.proofs.Tests.{each, same}
-use Rattle.codes.proofs.Rows.{reads-back, read-back}
+use Rattle.codes.proofs.Rows.{read-back, b-test}
 use Rattle.codes.proofs.sync.b_sign.Statement.{statement}
 use Rattle.codes.proofs.sync.b_sign.Tie as tie
 
@@ -16,10 +13,9 @@ sign-at-requires : tie.Need-sign-at-requires
 sign-at-requires c κs = search needs
 
 returns : tie.Need-returns
-unfolding reads-back each same sign-bit _at_
 returns c =
     let f : SFits w32 (c .sign-at .result) = search needs in
-    toZ-ofZ f ∙ c .sign-at .ensures ∙ read-back b tt (c .before .args .i)
+    toZ-ofZ f ∙ c .sign-at .ensures ∙ read-back b b-test (c .before .args .i)
 
 pub b-sign-spec : {M : Type 1} → statement M
 b-sign-spec = tie.close (tie.spec sign-at-requires returns)

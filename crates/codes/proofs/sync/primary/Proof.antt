@@ -1,6 +1,5 @@
 -- `primary` meets its contract: the sign of the part times the element of a, on the diagonal. Assumes nothing.
-use mathlib.Core.Path.{sym, ap, ap₂, _∙_, subst}
-use Prim.Native.Nat.{_/_, _%_}
+use mathlib.Core.Path.{ap, ap₂, _∙_}
 use borrow.Author.Needs.{needs}
 use lib.IntN.{ℤ, pos, _*ℤ_}
 use mir.Syntax.{w32}
@@ -8,20 +7,16 @@ use mir.Val.{SFits}
 use Rattle.complex.specs.Arithmetic.{_+j_, real, _⊗_}
 use Rattle.complex.proofs.Machine.{mul-asks, mul-gives}
 use Rattle.complex.proofs.Sizes.{Within, within-mul, fits-within}
-use Rattle.codes.specs.Signs.{_at_}
-use Rattle.codes.specs.Held.{sign-bit}
 use Rattle.codes.specs.SyncCodes.{a, a-signs, repeated, Cp}
-use Rattle.codes.proofs.Tests.{each, same}
-use Rattle.codes.proofs.Rows.{reads-back, row-within}
+use Rattle.codes.proofs.Rows.{row-within, a-test, a-signs-test}
 use Rattle.codes.proofs.sync.primary.Statement.{statement}
 use Rattle.codes.proofs.sync.primary.Tie as tie
 
+-- whatever their places, both are signs
 product-fits : (c : tie.After-a-sign) → SFits w32 (c .before .a-repeat .result *ℤ c .a-sign .result)
-unfolding reads-back each same sign-bit _at_
 product-fits c =
-    let n = c .before .before .args .n in
-    let s : Within 1 (c .before .a-repeat .result) = subst (Within 1) (sym (c .before .a-repeat .ensures)) (row-within a-signs tt (n / 16)) in
-    let t : Within 1 (c .a-sign .result) = subst (Within 1) (sym (c .a-sign .ensures)) (row-within a tt (n % 16)) in
+    let s : Within 1 (c .before .a-repeat .result) = rw (c .before .a-repeat .ensures) (row-within a-signs a-signs-test _) in
+    let t : Within 1 (c .a-sign .result) = rw (c .a-sign .ensures) (row-within a a-test _) in
     fits-within (within-mul s t) tt
 
 a-repeat-requires : tie.Need-a-repeat-requires

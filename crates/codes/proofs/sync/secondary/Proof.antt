@@ -13,22 +13,17 @@ use mir.Facts.{toZ-ofZ}
 use Rattle.complex.specs.Arithmetic.{_+j_, real, 𝟎, _⊗_}
 use Rattle.complex.proofs.Machine.{mul-asks, mul-gives}
 use Rattle.complex.proofs.Sizes.{Within, within-mul, fits-within}
-use Rattle.codes.specs.Signs.{_at_}
-use Rattle.codes.specs.Held.{sign-bit}
 use Rattle.codes.specs.SyncCodes.{b, b-signs, is-sync-code, C}
-use Rattle.codes.proofs.Tests.{each, same}
-use Rattle.codes.proofs.Rows.{reads-back, row-within}
+use Rattle.codes.proofs.Rows.{row-within, b-test, b-signs-test}
 use Rattle.codes.proofs.Parts.{hadamard-part-within, C-parts}
 use Rattle.codes.proofs.sync.secondary.Statement.{statement}
 use Rattle.codes.proofs.sync.secondary.Tie as tie
 
--- the sign of the part times the element of b
+-- the sign of the part times the element of b: whatever their places, both are signs
 pair-within : (c : tie.After-b-sign) → Within 1 (c .before .b-repeat .result *ℤ c .b-sign .result)
-unfolding reads-back each same sign-bit _at_
 pair-within c =
-    let n = c .before .before .before .before .args .n in
-    let s : Within 1 (c .before .b-repeat .result) = subst (Within 1) (sym (c .before .b-repeat .ensures)) (row-within b-signs tt (n / 16)) in
-    let t : Within 1 (c .b-sign .result) = subst (Within 1) (sym (c .b-sign .ensures)) (row-within b tt (n % 16)) in
+    let s : Within 1 (c .before .b-repeat .result) = rw (c .before .b-repeat .ensures) (row-within b-signs b-signs-test _) in
+    let t : Within 1 (c .b-sign .result) = rw (c .b-sign .ensures) (row-within b b-test _) in
     within-mul s t
 
 pair-fits : (c : tie.After-b-sign) → SFits w32 (c .before .b-repeat .result *ℤ c .b-sign .result)
@@ -45,8 +40,7 @@ pair-gives c =
 -- all three
 product-fits : (c : tie.After-hadamard-sign) → SFits w32 (c .before .before .b-repeat .result *ℤ c .before .b-sign .result *ℤ c .hadamard-sign .result)
 product-fits c =
-    let s = c .before .before .before .before .before in
-    let h : Within 1 (c .hadamard-sign .result) = subst (Within 1) (sym (c .hadamard-sign .ensures)) (hadamard-part-within (s .args .i) (s .args .n / 16)) in
+    let h : Within 1 (c .hadamard-sign .result) = rw (c .hadamard-sign .ensures) (hadamard-part-within _ _) in
     fits-within (within-mul (pair-within (c .before)) h) tt
 
 is-sync-code-requires : tie.Need-is-sync-code-requires
