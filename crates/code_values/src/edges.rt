@@ -1,8 +1,8 @@
 // The calls at and past the limits of their arguments, up to the largest number of 32 bits.
-use crate::calls;
-use crate::calls::Arguments;
-use crate::calls::Call;
-use crate::print;
+use code_text::calls;
+use code_text::calls::Arguments;
+use code_text::calls::Call;
+use code_text::print;
 
 pub fn all() {
     let list = b"0 0 0, 3 0 0, 5 0 0, 15 0 0, 17 0 0, 32 0 0, 4294967295 0 0, 3 9 99, 1 1 0, \

@@ -1,8 +1,8 @@
 // Every value: a line has the chips of a code or 16 of them, the relations of a code to all 31, or one value.
-use crate::calls;
-use crate::calls::Arguments;
-use crate::calls::Call;
-use crate::print;
+use code_text::calls;
+use code_text::calls::Arguments;
+use code_text::calls::Call;
+use code_text::print;
 
 pub fn all() {
     tree(Call::Element);
