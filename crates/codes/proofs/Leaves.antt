@@ -7,13 +7,15 @@ use native.Mathlib.Nat.{div-add-mod', lt-of-not-le, mul-le-mul-left}
 use native.Mathlib.Decide.{decLe}
 use native.Mathlib.Omega.{arith}
 use borrow.Author.Tests.{le-ltb}
-use lib.Dec.{T, eqb, eqb→eq, leb, leb→le, ltb, ltb→lt}
-use lib.IntN.{pos}
+use lib.Dec.{T, eqb, eqb→eq, leb, leb→le, lit≤, ltb, ltb→lt}
+use lib.IntN.{pos, natAbs}
 use lib.ListN.{getD, length, List·getD-eq-default}
+use Rattle.complex.proofs.Sizes.{Within}
 use Rattle.codes.specs.Signs.{_at_}
 use Rattle.codes.specs.Held.{packed, sign-bit, leaf-rows}
 use Rattle.codes.specs.Tree.{spreading-factors, is-spreading-factor, is-code, code, element, at-or-above, related, width, overlap}
-use Rattle.codes.proofs.Tests.{agree, agree→eq, each, each-at, same, same→eq, T-true, among-below, all-below}
+use Rattle.codes.specs.Range.{each}
+use Rattle.codes.proofs.Tests.{agree, agree→eq, each-at, same, same→eq, T-true, among-below, all-below}
 use Rattle.codes.proofs.Rows.{leaf-read-back}
 
 -- ---- a test of every code
@@ -63,6 +65,31 @@ past-code Q k n h = go (is-spreading-factor Q) refl (decLe Q k)
     go false e d = no-code Q k n (not-factor Q k e)
     go true e (yes l) = no-code Q k n (not-below Q k l)
     go true e (no l) = within Q k n h (subst T (sym e) tt) (lt-of-not-le l)
+
+-- an element's size
+sizes : ℕ → ℕ → Bool
+sizes Q k = each Q (λ n. leb (natAbs (element Q k n)) 1)
+
+sizes-test : T (each-code sizes)
+unfolding each-code sizes each element _at_
+sizes-test = tt
+
+pub element-within : (Q k n : ℕ) → Within 1 (element Q k n)
+unfolding sizes
+element-within Q k n = go (is-spreading-factor Q) refl (decLe Q k) (decLe Q n)
+  where
+    no-element : element Q k n ≡ pos 0 → Within 1 (element Q k n)
+    no-element e = subst (Within 1) (sym e) (record { size = lit≤ tt })
+
+    some-element : T (is-spreading-factor Q) → k < Q → n < Q → Within 1 (element Q k n)
+    some-element t l m =
+        record { size = leb→le (natAbs (element Q k n)) 1 (each-at Q (λ n. leb (natAbs (element Q k n)) 1) (at-code sizes sizes-test Q k t l) n m) }
+
+    go : (b : Bool) → is-spreading-factor Q ≡ b → Dec (Q ≤ k) → Dec (Q ≤ n) → Within 1 (element Q k n)
+    go false e d d′ = no-element (no-code Q k n (not-factor Q k e))
+    go true e (yes l) d′ = no-element (no-code Q k n (not-below Q k l))
+    go true e (no l) (yes m) = no-element (past-code Q k n m)
+    go true e (no l) (no m) = some-element (subst T (sym e) tt) (lt-of-not-le l) (lt-of-not-le m)
 
 -- Q is no factor exactly where the width is 0
 widths-test : T (each 17 (λ Q. cond (is-spreading-factor Q) (ltb 0 (width Q)) true))

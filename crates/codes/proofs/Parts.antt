@@ -8,7 +8,7 @@ use native.Mathlib.Decide.{decLe}
 use native.Mathlib.Omega.{arith}
 use borrow.Author.Tests.{lt-ltb}
 use lib.Bits.{bitAnd, and-block}
-use lib.Count.{ones, ones-cat}
+use lib.Count.{ones, onesIn, ones-cat}
 use lib.Dec.{T, eqb, ltb, lit<, lit≤}
 use lib.IntN.{ℤ, pos, _*ℤ_, zero-*ℤ}
 use lib.ListN.{List·getD-eq-default}
@@ -16,7 +16,9 @@ use Rattle.complex.specs.Arithmetic.{_+j_, real, _⊗_}
 use Rattle.complex.proofs.Sizes.{Within}
 use Rattle.codes.specs.Signs.{_at_, minus-if}
 use Rattle.codes.specs.SyncCodes.{a, a-signs, b, b-signs, repeated, Cp, z, hadamard, hadamard-part, is-sync-code, sync-codes, C}
-use Rattle.codes.proofs.Tests.{T-true, all-below, among-below}
+use Rattle.codes.specs.Held.{sign-bit, secondary-row}
+use Rattle.codes.specs.Range.{each}
+use Rattle.codes.proofs.Tests.{each-at, same, same→eq, T-true, all-below, among-below}
 use Rattle.codes.proofs.Rows.{minus-if-within}
 
 -- ---- the Hadamard matrix: n, below 16, changes no bit that it shares with a row 16i
@@ -52,7 +54,7 @@ hadamard-part-within i m = go (ltb i 16 && ltb m 16)
     go false = record { size = lit≤ tt }
 
 -- ---- the codes
-sync-code-below : (i : ℕ) → T (is-sync-code i) → i < 16
+pub sync-code-below : (i : ℕ) → T (is-sync-code i) → i < 16
 unfolding all-below is-sync-code
 sync-code-below i t = among-below 16 i sync-codes tt t
 
@@ -86,3 +88,17 @@ module _ (m n : ℕ) (h : n < 16) where
   pub C-parts : (i : ℕ) → T (is-sync-code i) → C i (m * 16 + n) ≡ real ((b-signs at m *ℤ b at n) *ℤ hadamard-part i m) ⊗ (pos 1 +j pos 1)
   unfolding C z
   C-parts i t = rw (T-true (is-sync-code i) t, at-part b b-signs, hadamard-parts i (sync-code-below i t))
+
+-- ---- the signs of the parts, as the code holds them
+kept : ℕ → ℕ → Bool
+kept i m = same (sign-bit (secondary-row i) m) (b-signs at m *ℤ minus-if (eqb (ones (bitAnd i m) % 2) 1))
+
+kept-test : T (each 16 (λ i. each 16 (kept i)))
+unfolding each kept same sign-bit secondary-row ones onesIn _at_
+kept-test = tt
+
+pub secondary-signs : (i m : ℕ) → i < 16 → m < 16 → sign-bit (secondary-row i) m ≡ b-signs at m *ℤ hadamard-part i m
+unfolding kept
+secondary-signs i m h g =
+    same→eq _ _ (each-at 16 (kept i) (each-at 16 (λ i. each 16 (kept i)) kept-test i h) m g)
+    ∙ ap (λ (s : ℤ). b-signs at m *ℤ s) (sym (hadamard-part-is i m h g))

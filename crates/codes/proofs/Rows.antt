@@ -18,7 +18,8 @@ use Rattle.codes.specs.AnnexA.{annex-A}
 use Rattle.codes.specs.Scrambling.{row, v}
 use Rattle.codes.specs.Tree.{code}
 use Rattle.codes.specs.SyncCodes.{a, a-signs, b, b-signs}
-use Rattle.codes.proofs.Tests.{each, each-at, same, same→eq}
+use Rattle.codes.specs.Range.{each}
+use Rattle.codes.proofs.Tests.{each-at, same, same→eq}
 
 -- the row has 16 signs, and each is read back from the binary number
 unfoldable pub reads-back : List ℤ → Bool
@@ -49,7 +50,7 @@ minus-if-within true = record { size = lit≤ tt }
 minus-if-within false = record { size = lit≤ tt }
 
 -- a sign's size
-sign-within : (r i : ℕ) → Within 1 (sign-bit r i)
+pub sign-within : (r i : ℕ) → Within 1 (sign-bit r i)
 unfolding sign-bit
 sign-within r i = go (ltb 15 i)
   where

@@ -10,13 +10,9 @@ use borrow.Author.Tests.{eq-eqb, ne-eqb}
 use lib.Dec.{T, eqb, eqb→eq, ltb, ltb→lt}
 use mir.Facts.{and-yes}
 use lib.IntN.{ℤ, pos, negsuc}
+use Rattle.codes.specs.Range.{each}
 use Rattle.codes.specs.Held.{NoneOf-after, NoneOf, from}
 use Rattle.codes.specs.Tree.{among}
-
--- the test passes at each number below n
-unfoldable pub each : ℕ → (ℕ → Bool) → Bool
-each zero f = true
-each (suc n) f = cond (f n) (each n f) false
 
 both-left : (s t : Bool) → T (cond s t false) → T s
 both-left true t h = tt
@@ -34,6 +30,18 @@ each-at (suc n) f t k l = pick (ℕ-discrete n k) (λ m. each-at n f (both-right
     pick : Dec (n ≡ k) → (k < n → T (f k)) → T (f k)
     pick (yes e) r = subst (λ (m : ℕ). T (f m)) e (both-left (f n) (each n f) t)
     pick (no e) r = r (omega arith)
+
+pub each-all : (n : ℕ) (f : ℕ → Bool) → ((k : ℕ) → k < n → f k ≡ true) → each n f ≡ true
+unfolding each
+each-all zero f h = refl
+each-all (suc n) f h = rw (h n (omega arith)) (each-all n f (λ k l. h k (omega arith)))
+
+pub each-not : (n : ℕ) (f : ℕ → Bool) (k : ℕ) → k < n → f k ≡ false → each n f ≡ false
+each-not n f k l e = go (each n f) refl
+  where
+    go : (b : Bool) → each n f ≡ b → each n f ≡ false
+    go true q = absurd (subst T e (each-at n f (subst T (sym q) tt) k l))
+    go false q = q
 
 -- two tests agree
 unfoldable pub agree : Bool → Bool → Bool

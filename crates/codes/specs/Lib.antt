@@ -1,3 +1,4 @@
+pub mod Range
 pub mod Signs
 pub mod Tree
 pub mod AnnexA

@@ -22,3 +22,18 @@ infix 20 _otherwise_
 abbrev pub _otherwise_ : {A : Type 0} → List Refusal → A → Answer A
 [] otherwise a = gives a
 (r ∷ rs) otherwise a = cond (r .condition) (refused (r .number)) (rs otherwise a)
+
+-- the answer of a call whose values go to buffers: its refusal, or nothing more
+abbrev pub outcome : {A : Type 0} → Answer A → Answer (Unit {0})
+outcome (refused n) = refused n
+outcome (gives a) = gives tt
+
+-- what a call leaves where it finds b: "bench and buffers stay" after a refusal
+abbrev pub after : {A B : Type 0} → Answer A → B → (A → B) → B
+after (refused n) b f = b
+after (gives a) b f = f a
+
+-- the number of the first refusal whose condition holds; 0, which is no refusal's, where none does
+abbrev pub number : List Refusal → ℕ
+number [] = 0
+number (r ∷ rs) = cond (r .condition) (r .number) (number rs)

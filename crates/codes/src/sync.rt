@@ -1,29 +1,84 @@
 // The primary and the secondary sync codes, whole and by their parts of 16 chips.
 ghost use mathlib.Core.Path.{_≡_};
+ghost use Rattle.codes.specs.Held.{packed, secondary-row, NoneOf, from};
 ghost use Rattle.codes.specs.Signs.{_at_};
 ghost use Rattle.codes.specs.SyncCodes.{a, a-signs, b, b-signs, hadamard-part, is-sync-code, Cp, C};
 use crate::signs::sign_at;
 use complex::Complex;
 
+// The sequence a as a row of signs.
+pub fn a_row() -> u32
+    ensures { λ r. ⌜ r ≡ packed a ⌝ }
+{
+    0b1111110010101001
+}
+
+// The signs of the primary code's sixteen parts as a row.
+pub fn a_repeat_row() -> u32
+    ensures { λ r. ⌜ r ≡ packed a-signs ⌝ }
+{
+    0b1110010011101011
+}
+
+// The sequence b as a row of signs.
+pub fn b_row() -> u32
+    ensures { λ r. ⌜ r ≡ packed b ⌝ }
+{
+    0b1111110001010110
+}
+
+// What the last arm of `secondary_row` gives.
+fn no_secondary_row(i: u32) -> u32
+    requires { ⌜ NoneOf (from 0 16) i ⌝ }
+    ensures { λ r. ⌜ r ≡ secondary-row i ⌝ }
+{
+    0
+}
+
+// The signs of secondary code i's sixteen parts as a row: those of z times those of the Hadamard matrix.
+pub fn secondary_row(i: u32) -> u32
+    ensures { λ r. ⌜ r ≡ secondary-row i ⌝ }
+{
+    match i {
+        0 => 0b1110110010100000,
+        1 => 0b1011100111110101,
+        2 => 0b1101111110010011,
+        3 => 0b1000101011000110,
+        4 => 0b1110001110101111,
+        5 => 0b1011011011111010,
+        6 => 0b1101000010011100,
+        7 => 0b1000010111001001,
+        8 => 0b1110110001011111,
+        9 => 0b1011100100001010,
+        10 => 0b1101111101101100,
+        11 => 0b1000101000111001,
+        12 => 0b1110001101010000,
+        13 => 0b1011011000000101,
+        14 => 0b1101000001100011,
+        15 => 0b1000010100110110,
+        _ => no_secondary_row(i),
+    }
+}
+
 // Element i of the sequence a; 0 past its end.
 pub fn a_sign(i: u32) -> i32
     ensures { λ r. ⌜ r ≡ a at i ⌝ }
 {
-    sign_at(0b1111110010101001, i)
+    sign_at(a_row(), i)
 }
 
 // The sign of part m of the primary code, which is this sign times a; 0 past the code's end.
 pub fn a_repeat(m: u32) -> i32
     ensures { λ r. ⌜ r ≡ a-signs at m ⌝ }
 {
-    sign_at(0b1110010011101011, m)
+    sign_at(a_repeat_row(), m)
 }
 
 // Element i of the sequence b; 0 past its end.
 pub fn b_sign(i: u32) -> i32
     ensures { λ r. ⌜ r ≡ b at i ⌝ }
 {
-    sign_at(0b1111110001010110, i)
+    sign_at(b_row(), i)
 }
 
 // The sign of part m of the sequence z, which is this sign times b; 0 past the sequence's end.

@@ -97,6 +97,13 @@ pub conj-real : (x : ℤ) → conj (real x) ≡ real x
 unfolding real conj
 conj-real x = refl
 
+pub real-⊗ : (s : ℤ) (x : Complex) → real s ⊗ x ≡ s *ℤ x .re +j s *ℤ x .im
+unfolding real _⊗_
+real-⊗ s x =
+    by-components
+    (ap (λ (t : ℤ). s *ℤ x .re -ℤ t) (zero-*ℤ (x .im)) ∙ +ℤ-idr (s *ℤ x .re))
+    (ap (λ (t : ℤ). s *ℤ x .im +ℤ t) (zero-*ℤ (x .re)) ∙ +ℤ-idr (s *ℤ x .im))
+
 pub real-one-plus-j : (x : ℤ) → real x ⊗ (pos 1 +j pos 1) ≡ x +j x
 unfolding real _⊗_
 real-one-plus-j x = by-components by by

@@ -5,14 +5,21 @@ use Prim.Native.Nat.{ℕ, zero, suc, _+_, _*_, _<_}
 use native.Mathlib.Nat.{not-suc-le-zero, add-zero, add-suc, zero-mul, suc-mul}
 use native.Mathlib.Decide.{ℕ-discrete}
 use native.Mathlib.Omega.{arith}
+use native.Mathlib.Numerals.{add-one}
+use lib.IntN.{ℤ, _+ℤ_}
 use Rattle.complex.specs.declared.Complex.{Complex}
-use Rattle.complex.specs.Arithmetic.{𝟎, _⊕_, _⊗_, conj, Σ<}
-use Rattle.complex.proofs.Ring.{sums, ⊕-assoc, ⊕-𝟎, 𝟎-⊕, ⊗-𝟎, ⊗-⊕, conj-⊕}
+use Rattle.complex.specs.Arithmetic.{_+j_, real, 𝟎, _⊕_, _⊗_, conj, Σ<, Σℤ<}
+use Rattle.complex.proofs.Ring.{sums, ⊕-assoc, ⊕-𝟎, 𝟎-⊕, ⊗-𝟎, ⊗-⊕, conj-⊕, real-+ℤ}
 
 pub Σ-𝟎 : (n : ℕ) → Σ< n (λ i. 𝟎) ≡ 𝟎
 unfolding Σ<
 Σ-𝟎 zero = refl
 Σ-𝟎 (suc n) = rw (Σ-𝟎 n, ⊕-𝟎)
+
+-- one term more, as a loop adds it
+pub Σ-more : (n : ℕ) (f : ℕ → Complex) → Σ< (n + 1) f ≡ Σ< n f ⊕ f n
+unfolding Σ<
+Σ-more n f = rw add-one
 
 -- equal terms, equal sums
 pub Σ-cong : (n : ℕ) (f g : ℕ → Complex) → ((i : ℕ) → i < n → f i ≡ g i) → Σ< n f ≡ Σ< n g
@@ -62,3 +69,24 @@ pub Σ-blocks : (m n : ℕ) (f : ℕ → Complex) → Σ< (m * n) f ≡ Σ< m (�
 unfolding Σ<
 Σ-blocks zero n f = rw zero-mul
 Σ-blocks (suc m) n f = rw (suc-mul, Σ-+ (m * n) n f, Σ-blocks m n f)
+
+-- ---- sums of whole numbers
+pub Σℤ-more : (n : ℕ) (f : ℕ → ℤ) → Σℤ< (n + 1) f ≡ Σℤ< n f +ℤ f n
+unfolding Σℤ<
+Σℤ-more n f = rw add-one
+
+pub Σℤ-cong : (n : ℕ) (f g : ℕ → ℤ) → ((i : ℕ) → i < n → f i ≡ g i) → Σℤ< n f ≡ Σℤ< n g
+unfolding Σℤ<
+Σℤ-cong zero f g h = refl
+Σℤ-cong (suc n) f g h = ap₂ _+ℤ_ (Σℤ-cong n f g (λ i l. h i (omega arith))) (h n (omega arith))
+
+-- a sum, component by component
+pub Σ-components : (n : ℕ) (f g : ℕ → ℤ) → Σ< n (λ i. f i +j g i) ≡ Σℤ< n f +j Σℤ< n g
+unfolding Σ< Σℤ< 𝟎 _⊕_
+Σ-components zero f g = refl
+Σ-components (suc n) f g = ap (λ (t : Complex). t ⊕ (f n +j g n)) (Σ-components n f g)
+
+pub real-Σ : (n : ℕ) (f : ℕ → ℤ) → real (Σℤ< n f) ≡ Σ< n (λ i. real (f i))
+unfolding Σ< Σℤ< 𝟎 real
+real-Σ zero f = refl
+real-Σ (suc n) f = real-+ℤ (Σℤ< n f) (f n) ∙ ap (λ (t : Complex). t ⊕ real (f n)) (real-Σ n f)

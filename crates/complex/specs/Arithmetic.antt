@@ -42,3 +42,12 @@ j^ (suc n) = 𝐣 ⊗ j^ n
 unfoldable pub Σ< : ℕ → (ℕ → Complex) → Complex
 Σ< zero f = 𝟎
 Σ< (suc n) f = Σ< n f ⊕ f n
+
+-- f 0 + f 1 + .. + f (n - 1) of whole numbers
+unfoldable pub Σℤ< : ℕ → (ℕ → ℤ) → ℤ
+Σℤ< zero f = pos 0
+Σℤ< (suc n) f = Σℤ< n f +ℤ f n
+
+-- the squared size of a complex value
+unfoldable pub squared-size : Complex → ℤ
+squared-size x = x .re *ℤ x .re +ℤ x .im *ℤ x .im

@@ -1,9 +1,19 @@
 -- What a 32-bit component can hold.
 use mir.Syntax.{w32}
 use mir.Val.{SFits}
+use lib.IntN.{_+ℤ_, _-ℤ_, _*ℤ_}
 use Rattle.complex.specs.declared.Complex.{Complex}
 
 -- both components of x are 32-bit numbers
 pub record Fits32 (x : Complex) : Type 0 where
   pub re : SFits w32 (x .re)
   pub im : SFits w32 (x .im)
+
+-- so are the products and sums of which x ⊗ y is made
+pub record ProductFits32 (x y : Complex) : Type 0 where
+  pub re-re : SFits w32 (x .re *ℤ y .re)
+  pub im-im : SFits w32 (x .im *ℤ y .im)
+  pub re-im : SFits w32 (x .re *ℤ y .im)
+  pub im-re : SFits w32 (x .im *ℤ y .re)
+  pub re : SFits w32 (x .re *ℤ y .re -ℤ x .im *ℤ y .im)
+  pub im : SFits w32 (x .re *ℤ y .im +ℤ x .im *ℤ y .re)

@@ -1,2 +1,3 @@
 pub mod Arithmetic
+pub mod Buffers
 pub mod Fits

@@ -7,7 +7,8 @@ use borrow.Author.Needs.{needs}
 use lib.Dec.{T, eqb, leb}
 use Rattle.codes.specs.Tree.{among}
 use Rattle.codes.specs.Allocation.{case-1}
-use Rattle.codes.proofs.Tests.{agree, agree→eq, each, each-at}
+use Rattle.codes.specs.Range.{each}
+use Rattle.codes.proofs.Tests.{agree, agree→eq, each-at}
 use Rattle.codes.proofs.burst.case_1.Statement.{statement}
 use Rattle.codes.proofs.burst.case_1.Tie as tie
 

@@ -1,0 +1,72 @@
+-- What the codes of an allocation add to a score: its size, and that it is the share of the definition. Assumes nothing.
+use mathlib.Core.Path.{_≡_, ap, _∙_, subst}
+use mathlib.Core.List.{List}
+use Prim.Native.Nat.{ℕ, _+_, _*_, _<_}
+use lib.Dec.{T}
+use lib.IntN.{ℤ, _+ℤ_}
+use Rattle.complex.specs.declared.Complex.{Complex}
+use Rattle.complex.specs.Arithmetic.{_⊗_, conj}
+use Rattle.complex.specs.Buffers.{value, listed}
+use Rattle.complex.proofs.Ring.{products}
+use Rattle.complex.proofs.Sizes.{Within}
+use Rattle.complex.proofs.Components.{Both, both-conj, both-⊗}
+use Rattle.complex.proofs.Lists.{value-in-buffers}
+use Rattle.codes.specs.declared.ModulatedCode.{ModulatedCode}
+use Rattle.codes.specs.SyncCodes.{is-sync-code}
+use Rattle.codes.proofs.Parts.{sync-code-below}
+use Rattle.codes.proofs.Allocations.{Known, allocation-known}
+use Rattle.analyser.specs.SyncReading.{candidate, P, S, score, sent, share}
+use Rattle.analyser.specs.Held.{Bound, correlated, part-sums, product, share-of, shares-of}
+use Rattle.analyser.proofs.Bounds.{bound-listed, signed-sum-within}
+use Rattle.analyser.proofs.Correlations.{one-minus-j-within, primary-is, secondary-is}
+
+pub share-within : {k : ℕ} {d : ℕ → Complex} {m : ModulatedCode} → ((i : ℕ) → Both k (d i)) → Known m → Within (k * 1 + k * 1) (share-of d m)
+unfolding share-of
+share-within {k} {d} {m} h g = both-⊗ (h (m .code)) (both-conj (g .small)) .re
+
+pub known-below : {m : ModulatedCode} → Known m → m .code < 16
+known-below {m} g = sync-code-below (m .code) (g .listed)
+
+-- ---- from the products that the code holds to the scores of the definition
+module _ (re im dre dim : List ℤ)
+    (dre-is : dre ≡ listed 16 (λ i. product re im (P (value re im)) i .re)) (dim-is : dim ≡ listed 16 (λ i. product re im (P (value re im)) i .im)) where
+  abbrev chip : ℕ → Complex
+  chip = value re im
+
+  product-is : (i : ℕ) → T (is-sync-code i) → value dre dim i ≡ S chip i ⊗ conj (P chip)
+  unfolding product
+  product-is i t =
+      (λ k. value (dre-is k) (dim-is k) i)
+      ∙ value-in-buffers 16 (product re im (P chip)) i (sync-code-below i t)
+      ∙ ap (λ (x : Complex). x ⊗ conj (P chip)) (secondary-is re im i t)
+
+  share-is : {m : ModulatedCode} → Known m → share-of (value dre dim) m ≡ share chip m
+  unfolding share-of share
+  share-is {m} g =
+      ap (λ (x : Complex). x .re)
+      (ap (λ (x : Complex). x ⊗ conj (m .unit)) (product-is (m .code) (g .listed)) ∙ sorted (S chip (m .code)) (conj (P chip)) (conj (m .unit)))
+    where
+      sorted : (x y z : Complex) → (x ⊗ y) ⊗ z ≡ (x ⊗ z) ⊗ y
+      sorted x y z = simp products
+
+  pub scores-are : (case n : ℕ) → shares-of (value dre dim) (sent case (candidate case n)) ≡ score case chip n
+  unfolding score
+  scores-are case n =
+      let c = candidate case n in
+      let k = allocation-known case (c .group .0) (c .frame) (c .half) in
+      λ i. share-is (k .first) i +ℤ share-is (k .second) i +ℤ share-is (k .marker) i
+
+-- ---- sizes of what the code holds
+pub parts-bound : {x : List ℤ} → Bound 100000 x → (row : ℕ) → Bound 1600000 (part-sums x row)
+parts-bound h row = bound-listed 1600000 16 _ (λ m. signed-sum-within h _ _ _)
+
+pub correlated-within : {re im : List ℤ} → Bound 1600000 re → Bound 1600000 im → (signs : ℕ) → Both 51200000 (correlated re im signs)
+unfolding correlated
+correlated-within h g signs = one-minus-j-within (record { re = signed-sum-within h _ _ _; im = signed-sum-within g _ _ _ })
+
+pub P-within : (re im : List ℤ) → Bound 100000 re → Bound 100000 im → Both 51200000 (P (value re im))
+P-within re im h g = subst (Both 51200000) (primary-is re im) (correlated-within (parts-bound h _) (parts-bound g _) _)
+
+pub product-within : {re im : List ℤ} {p : Complex} → Bound 100000 re → Bound 100000 im → Both 51200000 p → (i : ℕ) → Both 5242880000000000 (product re im p i)
+unfolding product
+product-within h g k i = both-⊗ (correlated-within (parts-bound h _) (parts-bound g _) _) (both-conj k)

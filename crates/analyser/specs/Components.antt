@@ -1,0 +1,22 @@
+-- Document 01, "Analyser calls": refusal 17, "a component outside -100000 to 100000", and the lengths that 18 compares.
+use lib.IntN.{ℤ, pos, negℤ}
+use Prim.Native.Nat.{ℕ}
+use mathlib.Core.Bool.{Bool, false, _&&_, _||_, not}
+use mathlib.Core.List.{List, [], _∷_}
+use lib.Dec.{ltb}
+use lib.Signed.{leZ}
+
+abbrev pub largest-component : ℕ
+largest-component = 100000
+
+abbrev pub in-range : ℤ → Bool
+in-range x = leZ (negℤ (pos largest-component)) x && leZ x (pos largest-component)
+
+-- a component of the list is outside
+unfoldable pub outside : List ℤ → Bool
+outside [] = false
+outside (x ∷ xs) = not (in-range x) || outside xs
+
+-- one of two buffers, of m and m′ entries, is shorter than n
+abbrev pub one-shorter : ℕ → ℕ → ℕ → Bool
+one-shorter m m′ n = ltb m n || ltb m′ n

@@ -1,0 +1,24 @@
+// The largest of values that come one after another, and which it was.
+ghost use mathlib.Core.Path.{_≡_};
+ghost use Rattle.analyser.specs.Held.{or-later};
+
+pub struct Largest {
+    pub at: usize,
+    pub value: i64,
+}
+
+impl Largest {
+    // A later value takes the place only where it is larger.
+    pub fn or_later(self, at: usize, value: i64) -> Largest
+        ensures { λ r. ⌜ r ≡ or-later self at value ⌝ }
+    {
+        if self.value < value {
+            Largest {
+                at: at,
+                value: value,
+            }
+        } else {
+            self
+        }
+    }
+}

@@ -1,0 +1,60 @@
+-- What a refusal's number, found by itself, says of the whole answer. Assumes nothing.
+use mathlib.Core.Path.{_≡_, refl, subst}
+use mathlib.Core.Logic.{_≢_}
+use mathlib.Core.Bool.{Bool, true, false, _&&_, not, cond}
+use mathlib.Core.List.{List, [], _∷_, _++_}
+use lib.Dec.{T, eqb}
+use borrow.Author.Tests.{eq-eqb}
+use mir.Facts.{and-yes}
+use Rattle.codes.specs.Refusals.{refused, gives, Refusal, _otherwise_, number}
+
+-- no refusal of the list has number 0
+unfoldable pub numbered : List Refusal → Bool
+numbered [] = true
+numbered (r ∷ rs) = not (eqb (r .number) 0) && numbered rs
+
+-- no condition of the list holds
+abbrev pub Passed : List Refusal → Type 0
+Passed [] = Unit {0}
+Passed (r ∷ rs) = (r .condition ≡ false) × Passed rs
+
+pub passed : (rs : List Refusal) → T (numbered rs) → number rs ≡ 0 → Passed rs
+unfolding numbered
+passed [] t e = tt
+passed (r ∷ rs) t e = go (r .condition) refl e (and-yes (not (eqb (r .number) 0)) (numbered rs) t) (passed rs)
+  where
+    go : (b : Bool) → r .condition ≡ b → cond b (r .number) (number rs) ≡ 0 → T (not (eqb (r .number) 0)) × T (numbered rs) → (T (numbered rs) → number rs ≡ 0 → Passed rs)
+        → (r .condition ≡ false) × Passed rs
+    go true q z u f = absurd (subst (λ b. T (not b)) (eq-eqb (r .number) 0 z) (u .0))
+    go false q z u f = (q, f (u .1) z)
+
+module _ {A : Type 0} (a : A) where
+  passed-gives : (rs : List Refusal) → Passed rs → rs otherwise a ≡ gives a
+  passed-gives [] p = refl
+  passed-gives (r ∷ rs) p = rw (p .0) (passed-gives rs (p .1))
+
+  pub accepted : (rs : List Refusal) → T (numbered rs) → number rs ≡ 0 → rs otherwise a ≡ gives a
+  accepted rs t e = passed-gives rs (passed rs t e)
+
+  pub not-accepted : (rs : List Refusal) → number rs ≢ 0 → rs otherwise a ≡ refused (number rs)
+  not-accepted [] d = absurd (d refl)
+  not-accepted (r ∷ rs) d = go (r .condition) d (not-accepted rs)
+    where
+      go : (b : Bool) → cond b (r .number) (number rs) ≢ 0 → (number rs ≢ 0 → rs otherwise a ≡ refused (number rs))
+          → cond b (refused (r .number)) (rs otherwise a) ≡ refused (cond b (r .number) (number rs))
+      go true z f = refl
+      go false z f = f z
+
+-- ---- a list in two parts
+pub refused-early : (rs qs : List Refusal) → number rs ≢ 0 → number (rs ++ qs) ≡ number rs
+refused-early [] qs d = absurd (d refl)
+refused-early (r ∷ rs) qs d = go (r .condition) d (refused-early rs qs)
+  where
+    go : (b : Bool) → cond b (r .number) (number rs) ≢ 0 → (number rs ≢ 0 → number (rs ++ qs) ≡ number rs)
+        → cond b (r .number) (number (rs ++ qs)) ≡ cond b (r .number) (number rs)
+    go true z f = refl
+    go false z f = f z
+
+pub passed-early : (rs qs : List Refusal) → Passed rs → number (rs ++ qs) ≡ number qs
+passed-early [] qs p = refl
+passed-early (r ∷ rs) qs p = rw (p .0) (passed-early rs qs (p .1))

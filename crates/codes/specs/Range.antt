@@ -1,0 +1,8 @@
+-- A test over the numbers below n.
+use Prim.Native.Nat.{ℕ, zero, suc}
+use mathlib.Core.Bool.{Bool, true, false, cond}
+
+-- the test passes at each number below n
+unfoldable pub each : ℕ → (ℕ → Bool) → Bool
+each zero f = true
+each (suc n) f = cond (f n) (each n f) false

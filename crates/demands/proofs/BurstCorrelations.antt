@@ -1,0 +1,137 @@
+-- What a sync burst correlates to with each sync code, and so its score: a number above 0 times how far the sent codes and units
+-- agree with the candidate's. Assumes nothing.
+use mathlib.Core.Path.{_≡_, refl, sym, ap, ap₂, _∙_}
+use mathlib.Core.Bool.{Bool, true, false, cond}
+use Prim.Native.Nat.{ℕ, _+_, _*_, _<_, _≤_}
+use lib.Dec.{T, eqb}
+use lib.IntN.{ℤ, pos, natAbs, _+ℤ_, _*ℤ_, zero-*ℤ, negℤ-negℤ}
+use Rattle.complex.specs.declared.Complex.{Complex}
+use Rattle.complex.specs.Arithmetic.{real, _⊕_, _⊗_, conj}
+use Rattle.complex.proofs.Integers.{ring, *ℤ-negℤ, *ℤ-+ℤ}
+use Rattle.complex.proofs.Ring.{products, ⊗-assoc, ⊕-⊗, ⊗-⊕, ⊗-𝟎, ⊕-𝟎, 𝟎-⊕, conj-⊗, conj-real, real-*ℤ, real-⊗}
+use Rattle.complex.proofs.Sums.{Σ-cong, Σ-⊕, ⊗-Σ}
+use Rattle.codes.specs.declared.ModulatedCode.{ModulatedCode}
+use Rattle.codes.specs.declared.Allocated.{Allocated}
+use Rattle.codes.specs.SyncCodes.{Cp, C, is-sync-code}
+use Rattle.codes.specs.Burst.{secondaries}
+use Rattle.analyser.specs.SyncReading.{correlation, S, P, share, total-share}
+use Rattle.demands.proofs.SyncOrthogonality.{weight, primary-primary, primary-secondary, secondary-primary, secondary-secondary}
+
+-- ---- a correlation is linear in the chips
+module _ (code : ℕ → Complex) where
+  pub correlation-cong : (x y : ℕ → Complex) → ((n : ℕ) → n < 256 → x n ≡ y n) → correlation x code ≡ correlation y code
+  unfolding correlation
+  correlation-cong x y h = Σ-cong 256 _ (λ n. y n ⊗ conj (code n)) (λ n l. rw (h n l))
+
+  correlation-⊕ : (x y : ℕ → Complex) → correlation (λ n. x n ⊕ y n) code ≡ correlation x code ⊕ correlation y code
+  unfolding correlation
+  correlation-⊕ x y =
+      Σ-cong 256 _ (λ n. x n ⊗ conj (code n) ⊕ y n ⊗ conj (code n)) (λ n l. ⊕-⊗ (x n) (y n) (conj (code n)))
+      ∙ Σ-⊕ 256 (λ n. x n ⊗ conj (code n)) (λ n. y n ⊗ conj (code n))
+
+  correlation-⊗ : (k : Complex) (x : ℕ → Complex) → correlation (λ n. k ⊗ x n) code ≡ k ⊗ correlation x code
+  unfolding correlation
+  correlation-⊗ k x =
+      Σ-cong 256 _ (λ n. k ⊗ (x n ⊗ conj (code n))) (λ n l. ⊗-assoc k (x n) (conj (code n)))
+      ∙ sym (⊗-Σ 256 (λ n. x n ⊗ conj (code n)) k)
+
+-- ---- how far sent codes and units agree: 1 for each code that both have with one unit
+unfoldable pub along : Complex → Complex → ℤ
+along u v = u .re *ℤ v .re +ℤ u .im *ℤ v .im
+
+unfoldable pub match : ModulatedCode → ModulatedCode → ℤ
+match m n = cond (eqb (m .code) (n .code)) (along (m .unit) (n .unit)) (pos 0)
+
+unfoldable pub heard : Allocated → ModulatedCode → ℤ
+heard s n = match (s .first) n +ℤ match (s .second) n +ℤ match (s .marker) n
+
+unfoldable pub agreement : Allocated → Allocated → ℤ
+agreement s t = heard s (t .first) +ℤ heard s (t .second) +ℤ heard s (t .marker)
+
+-- ---- a product and its real part
+arrange : (x y z u p q g : Complex) → ((g ⊗ (x ⊕ y ⊕ z)) ⊗ u) ⊗ (p ⊗ q) ≡ (g ⊗ (p ⊗ q)) ⊗ (x ⊗ u ⊕ y ⊗ u ⊕ z ⊗ u)
+arrange x y z u p q g = simp (⊗-⊕, ⊕-⊗, products)
+
+weight-first : (u w v : Complex) → (u ⊗ w) ⊗ v ≡ w ⊗ (u ⊗ v)
+weight-first u w v = simp products
+
+re-of : (u v : Complex) → (u ⊗ conj v) .re ≡ along u v
+unfolding _⊗_ conj along
+re-of u v = simp (*ℤ-negℤ, negℤ-negℤ)
+
+either : (c : Bool) (x : ℤ) → cond c (pos 512) (pos 0) *ℤ x ≡ pos 512 *ℤ cond c x (pos 0)
+either true x = refl
+either false x = zero-*ℤ x
+
+gather : (k w x y z : ℤ) → k *ℤ (w *ℤ x +ℤ w *ℤ y +ℤ w *ℤ z) ≡ (k *ℤ w) *ℤ (x +ℤ y +ℤ z)
+gather k w x y z = simp ring
+
+-- a sync code, with a unit that makes no component larger
+pub record Modulated (m : ModulatedCode) : Type 0 where
+  pub code : T (is-sync-code (m .code))
+  pub unit : natAbs (m .unit .re) + natAbs (m .unit .im) ≤ 1
+
+pub record Sent (s : Allocated) : Type 0 where
+  pub first : Modulated (s .first)
+  pub second : Modulated (s .second)
+  pub marker : Modulated (s .marker)
+
+-- the chips of a burst with these codes
+unfoldable pub chips : ℕ → ℕ → Allocated → ℕ → Complex
+chips gP gS s n = real (pos gP) ⊗ Cp n ⊕ real (pos gS) ⊗ secondaries s n
+
+-- the number that every score of the burst is a multiple of
+abbrev pub scale : ℕ → ℕ → ℕ
+scale gP gS = gS * (gP * 512) * 512
+
+module _ (gP gS : ℕ) (s : Allocated) (c : Sent s) where
+  by-codes : (code : ℕ → Complex) → correlation (chips gP gS s) code
+      ≡ real (pos gP) ⊗ correlation Cp code
+      ⊕ real (pos gS) ⊗ (s .first .unit ⊗ correlation (C (s .first .code)) code ⊕ s .second .unit ⊗ correlation (C (s .second .code)) code ⊕ s .marker .unit ⊗ correlation (C (s .marker .code)) code)
+  unfolding chips secondaries
+  by-codes code = simp (correlation-⊕, correlation-⊗)
+
+  primary : P (chips gP gS s) ≡ real (pos gP) ⊗ real (pos 512)
+  primary =
+      by-codes Cp
+      ∙ rw (primary-primary, secondary-primary _ (c .first .code), secondary-primary _ (c .second .code), secondary-primary _ (c .marker .code)) (simp (⊗-𝟎, ⊕-𝟎))
+
+  module _ (m : ModulatedCode) (t : Modulated m) where
+    -- what the code is heard with
+    part : ModulatedCode → Complex
+    part n = n .unit ⊗ real (weight (n .code) (m .code))
+
+    secondary : S (chips gP gS s) (m .code) ≡ real (pos gS) ⊗ (part (s .first) ⊕ part (s .second) ⊕ part (s .marker))
+    unfolding part
+    secondary =
+        by-codes (C (m .code))
+        ∙ rw (
+          primary-secondary (m .code) (t .code),
+          secondary-secondary _ (c .first .code) (m .code) (t .code),
+          secondary-secondary _ (c .second .code) (m .code) (t .code),
+          secondary-secondary _ (c .marker .code) (m .code) (t .code),
+        ) (simp (⊗-𝟎, 𝟎-⊕))
+
+    turned : (n : ModulatedCode) → (part n ⊗ conj (m .unit)) .re ≡ pos 512 *ℤ match n m
+    unfolding part match
+    turned n =
+        ap (λ (x : Complex). x .re) (weight-first (n .unit) (real (weight (n .code) (m .code))) (conj (m .unit)) ∙ real-⊗ (weight (n .code) (m .code)) (n .unit ⊗ conj (m .unit)))
+        ∙ ap (λ (x : ℤ). weight (n .code) (m .code) *ℤ x) (re-of (n .unit) (m .unit))
+        ∙ either (eqb (n .code) (m .code)) (along (n .unit) (m .unit))
+
+    whole : S (chips gP gS s) (m .code) ⊗ conj (m .unit) ⊗ conj (P (chips gP gS s))
+        ≡ real (pos (gS * (gP * 512))) ⊗ (part (s .first) ⊗ conj (m .unit) ⊕ part (s .second) ⊗ conj (m .unit) ⊕ part (s .marker) ⊗ conj (m .unit))
+    whole =
+        rw (secondary, primary, conj-⊗, conj-real (pos gP), conj-real (pos 512), arrange)
+        (rw (← (real-*ℤ (pos gP) (pos 512)), ← (real-*ℤ (pos gS) (pos (gP * 512)))))
+
+    shared : share (chips gP gS s) m ≡ pos (scale gP gS) *ℤ heard s m
+    unfolding share _⊕_ heard
+    shared =
+        ap (λ (x : Complex). x .re) (whole ∙ real-⊗ (pos (gS * (gP * 512))) _)
+        ∙ ap (λ (x : ℤ). pos (gS * (gP * 512)) *ℤ x) (ap₂ _+ℤ_ (ap₂ _+ℤ_ (turned (s .first)) (turned (s .second))) (turned (s .marker)))
+        ∙ gather (pos (gS * (gP * 512))) (pos 512) (match (s .first) m) (match (s .second) m) (match (s .marker) m)
+
+  pub score-of : (t : Allocated) → Sent t → total-share (chips gP gS s) t ≡ pos (scale gP gS) *ℤ agreement s t
+  unfolding agreement
+  score-of t d = rw (shared (t .first) (d .first), shared (t .second) (d .second), shared (t .marker) (d .marker)) (simp (*ℤ-+ℤ))

@@ -1,0 +1,2 @@
+// No code: the theorems on the crates below.
+fn nothing() {}
