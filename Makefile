@@ -1,6 +1,7 @@
 # make test: every check of the repository; its last line is rt ci's verdict.
 # make values: prove and build the code rules, and print every value of them.
-.PHONY: test values
+# make vectors: prove and build the analyser, and print its answers to the test vectors.
+.PHONY: test values vectors
 
 test:
 	@rt fmt --check
@@ -10,3 +11,7 @@ test:
 values:
 	@rt check code_values >&2
 	@target/bin/code_values
+
+vectors:
+	@rt check analyser_values >&2
+	@target/bin/analyser_values
