@@ -33,7 +33,7 @@ FRESH, FRESH_BYTE = 7, 9  # every entry of an answer or scratch buffer, of a byt
 HARDEN_COMPONENTS = (-2147483648, -2147483647, -5, -1, 0, 1, 5, 2147483646, 2147483647)
 
 # gP, gS and the noise limit: for every place of a burst, and for one place of each case.
-SYNC_LEVELS = ((1, 1, 0), (1, 4095, 0), (4095, 1, 0), (100, 100, 2000), (0, 0, 90000))
+SYNC_LEVELS = ((1, 1, 0), (1, 4095, 0), (4095, 1, 0), (100, 100, 200), (100, 100, 2000), (0, 0, 90000))
 SYNC_PARTS = ((0, 0, 0), (5, 0, 0), (0, 5, 0))
 
 # Case, then group, frame and half of the one burst and of the other, then gP and gS.
@@ -43,7 +43,8 @@ SYNC_TWO = ((1, 7, 1, 0, 7, 2, 0, 3, 5), (1, 7, 1, 0, 9, 1, 0, 3, 5),
 # Chips, noise limit, noise seed, the burst's group, its two starts. At 9999 there is no burst: it
 # is past every recording's end.
 FIND = (
-    "256 0 0 0 9999 9999, 256 50000 1 0 9999 9999, 257 50000 2 0 9999 9999, 256 0 0 3 0 9999, "
+    "256 0 0 0 9999 9999, 257 0 0 0 9999 9999, 256 50000 1 0 9999 9999, 257 50000 2 0 9999 9999, "
+    "256 0 0 3 0 9999, "
     "257 0 0 3 1 9999, 257 0 0 3 0 9999, 2560 0 0 0 9999 9999, 2560 50000 3 0 9999 9999, "
     "2560 0 0 31 2208 9999, 2560 0 0 7 300 1200, 2560 0 0 7 1200 300, 2560 100 4 7 300 1200, "
     "2560 5000 5 9 2304 9999, 2560 0 0 9 2305 9999, 5120 0 0 0 9999 9999, "

@@ -8,7 +8,8 @@ use native.Mathlib.Omega.{arith}
 use lib.IntN.{ℤ, pos}
 use lib.ListN.{getD, List·getD-eq-default}
 use Rattle.complex.specs.Buffers.{listed}
-use Rattle.complex.proofs.Sizes.{Within, within-more, within-mul}
+use Rattle.complex.specs.Fits.{Within}
+use Rattle.complex.proofs.Sizes.{within-more, within-mul}
 use Rattle.complex.proofs.Components.{within-Σℤ}
 use Rattle.complex.proofs.Lists.{length-listed, listed-at}
 use Rattle.codes.proofs.Rows.{sign-within}

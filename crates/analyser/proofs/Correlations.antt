@@ -10,10 +10,10 @@ use lib.ListN.{getD}
 use Rattle.complex.specs.declared.Complex.{Complex}
 use Rattle.complex.specs.Arithmetic.{_+j_, real, _⊗_, conj, Σ<, Σℤ<, squared-size}
 use Rattle.complex.specs.Buffers.{value, listed}
-use Rattle.complex.proofs.Integers.{ring}
+use Rattle.complex.specs.Fits.{Both}
+use Rattle.complex.proofs.Integers.{ring, *ℤ-swap}
 use Rattle.complex.proofs.Ring.{by-components, products, ⊗-comm, conj-⊗, conj-real, real-*ℤ, real-⊗}
 use Rattle.complex.proofs.Sizes.{within-add, within-sub}
-use Rattle.complex.proofs.Components.{Both}
 use Rattle.complex.proofs.Sums.{Σ-cong, ⊗-Σ, Σ-blocks, Σℤ-cong, Σ-components}
 use Rattle.complex.proofs.Lists.{listed-at}
 use Rattle.codes.specs.Signs.{_at_}
@@ -41,11 +41,11 @@ one-minus-j-within {k} {z} h =
 
 -- ---- a code is sixteen parts of sixteen chips: the parts have the signs of one row, the chips of a part those of another
 -- sixteen sums of sixteen
-pub stages : List ℤ → ℕ → ℕ → ℕ → ℤ
+stages : List ℤ → ℕ → ℕ → ℕ → ℤ
 stages x start row signs = Σℤ< 16 (λ m. sign-bit signs m *ℤ signed-sum x (start + m * 16) 1 row)
 
 -- they are what a signed sum makes of a list of signed sums
-pub staged : (f : ℕ → ℤ) (n from step signs : ℕ) → from + 15 * step < n → signed-sum (listed n f) from step signs ≡ Σℤ< 16 (λ m. sign-bit signs m *ℤ f (from + m * step))
+staged : (f : ℕ → ℤ) (n from step signs : ℕ) → from + 15 * step < n → signed-sum (listed n f) from step signs ≡ Σℤ< 16 (λ m. sign-bit signs m *ℤ f (from + m * step))
 unfolding signed-sum
 staged f n from step signs h =
     Σℤ-cong 16 (λ m. sign-bit signs m *ℤ getD (listed n f) (from + m * step) (pos 0)) (λ m. sign-bit signs m *ℤ f (from + m * step))
@@ -81,7 +81,7 @@ module _ (re im : List ℤ) (start : ℕ) where
         sorted : (x : Complex) (s r : ℤ) (u : Complex) → x ⊗ conj ((real s ⊗ real r) ⊗ u) ≡ conj u ⊗ (real s ⊗ (real r ⊗ x))
         sorted x s r u = simp (conj-⊗, conj-real) (simp products)
 
-    pub by-stages : Σ< 256 (λ n. value re im (start + n) ⊗ conj (code n)) ≡ (stages re start row signs +j stages im start row signs) ⊗ one-minus-j
+    by-stages : Σ< 256 (λ n. value re im (start + n) ⊗ conj (code n)) ≡ (stages re start row signs +j stages im start row signs) ⊗ one-minus-j
     unfolding stages
     by-stages =
         Σ-blocks 16 16 (λ n. value re im (start + n) ⊗ conj (code n))
@@ -111,11 +111,8 @@ secondary-parts : (k : ℕ) → T (is-sync-code k) → (m i : ℕ) → m < 16 �
     → C k (m * 16 + i) ≡ real (sign-bit (secondary-row k) m *ℤ sign-bit (packed b) i) ⊗ (pos 1 +j pos 1)
 secondary-parts k t m i h g =
     C-parts m i g k t
-    ∙ ap (λ (x : ℤ). real x ⊗ (pos 1 +j pos 1)) (sorted (b-signs at m) (b at i) (hadamard-part k m))
+    ∙ ap (λ (x : ℤ). real x ⊗ (pos 1 +j pos 1)) (*ℤ-swap (b-signs at m) (b at i) (hadamard-part k m))
     ∙ rw (secondary-signs k m (sync-code-below k t) h, read-back b b-test i)
-  where
-    sorted : (x y z : ℤ) → (x *ℤ y) *ℤ z ≡ (x *ℤ z) *ℤ y
-    sorted x y z = simp ring
 
 -- what the code makes of 256 chips is the correlation with a code of such parts
 correlation-is : (re im : List ℤ) (code : ℕ → Complex) (row signs : ℕ)

@@ -4,6 +4,7 @@ pub mod Ranges
 pub mod Products
 pub mod Smallest
 pub mod Choosing
+pub mod Leading
 pub mod Readings
 pub mod Pairs
 pub mod Correlations

@@ -11,7 +11,8 @@ use Rattle.analyser.proofs.Choosing.{peaks-one, peaks-more, peaks-is}
 
 -- four scores, one after another
 module _ (y : Complex) {v₀ v₁ v₂ v₃ : ℤ} {b₁ b₂ b₃ : Largest} (e₀ : v₀ ≡ y .im) (e₁ : v₁ ≡ y .re) (e₂ : v₂ ≡ negℤ (y .re)) (e₃ : v₃ ≡ negℤ (y .im))
-    (o₁ : b₁ ≡ or-later (record { at = 0; value = v₀ }) 1 v₁) (o₂ : b₂ ≡ or-later b₁ 2 v₂) (o₃ : b₃ ≡ or-later b₂ 3 v₃) where
+    (o₁ : b₁ ≡ or-later (record { at = 0; value = v₀ }) (record { at = 1; value = v₁ })) (o₂ : b₂ ≡ or-later b₁ (record { at = 2; value = v₂ }))
+    (o₃ : b₃ ≡ or-later b₂ (record { at = 3; value = v₃ })) where
   scores : Peaks (pair-score y) 4 b₃
   unfolding pair-score
   scores =

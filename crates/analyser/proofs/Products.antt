@@ -7,9 +7,10 @@ use mir.Syntax.{w64}
 use mir.Val.{SFits}
 use Rattle.complex.specs.declared.Complex.{Complex}
 use Rattle.complex.specs.Arithmetic.{_+j_, _⊗_, conj}
+use Rattle.complex.specs.Fits.{Within}
 use Rattle.complex.proofs.Integers.{ring}
 use Rattle.complex.proofs.Ring.{by-components}
-use Rattle.complex.proofs.Sizes.{Within, within-add, within-mul, fits-within}
+use Rattle.complex.proofs.Sizes.{within-add, within-mul, fits-within}
 
 -- at sizes that compute: `products-fit h g h′ g′ tt tt tt`
 pub products-fit : {k l m n : ℕ} {a b c d : ℤ} → Within k a → Within l b → Within m c → Within n d

@@ -11,9 +11,9 @@ use lib.IntN.{ℤ, pos, negsuc, negℤ}
 use lib.ListN.{length, getD, drop, drop-of-length-le}
 use lib.Seq.{drop-cons}
 use Rattle.complex.specs.Buffers.{listed}
+use Rattle.complex.specs.Fits.{Within}
 use Rattle.complex.proofs.Integers.{abs-parts}
 use Rattle.complex.proofs.Order.{le-leZ}
-use Rattle.complex.proofs.Sizes.{Within}
 use Rattle.analyser.specs.Components.{largest-component, in-range, outside}
 use Rattle.analyser.specs.Held.{Bound}
 

@@ -10,10 +10,10 @@ use lib.IntN.{ℤ}
 use Rattle.complex.specs.declared.Complex.{Complex}
 use Rattle.complex.specs.Arithmetic.{real, _⊗_, conj}
 use Rattle.complex.specs.Buffers.{value, in-buffers}
-use Rattle.complex.proofs.Components.{Both, both-more, both-⊗, both-conj, both-j^, both-sign, both-Σ}
+use Rattle.complex.specs.Fits.{Within, Both}
+use Rattle.complex.proofs.Components.{both-more, both-⊗, both-conj, both-j^, both-sign, both-Σ}
 use Rattle.complex.proofs.Lists.{value-in-buffers}
 use Rattle.complex.proofs.Ring.{⊗-assoc, ⊗-comm}
-use Rattle.complex.proofs.Sizes.{Within}
 use Rattle.complex.proofs.Sums.{Σ-cong}
 use Rattle.codes.specs.Scrambling.{scrambling}
 use Rattle.codes.specs.Tree.{among, spreading-factors, is-spreading-factor, element}

@@ -18,5 +18,5 @@ outside [] = false
 outside (x ∷ xs) = not (in-range x) || outside xs
 
 -- one of two buffers, of m and m′ entries, is shorter than n
-abbrev pub one-shorter : ℕ → ℕ → ℕ → Bool
-one-shorter m m′ n = ltb m n || ltb m′ n
+abbrev pub either-shorter : ℕ → ℕ → ℕ → Bool
+either-shorter m m′ n = ltb m n || ltb m′ n

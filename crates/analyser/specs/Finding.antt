@@ -14,22 +14,12 @@ use Rattle.analyser.specs.declared.Peak.{Peak}
 use Rattle.analyser.specs.declared.FindAnswer.{FindAnswer}
 use Rattle.analyser.specs.declared.FindAnswer.the-variants.{Found, Refused}
 use Rattle.analyser.specs.Choice.{smallest, has-largest}
-use Rattle.analyser.specs.Components.{outside, one-shorter}
+use Rattle.analyser.specs.Components.{outside, either-shorter}
 use Rattle.analyser.specs.SyncReading.{P}
 
 -- the squared size of P over the 256 chips from a start on
 unfoldable pub size-from : (ℕ → Complex) → ℕ → ℤ
 size-from chip start = squared-size (P (λ n. chip (start + n)))
-
--- Refuses 12; 16 n below 256 or above 5120; 17; 18 a scratch buffer shorter than n-15. The scratch buffers have m and m′ entries.
-abbrev pub shortest-recording : ℕ
-shortest-recording = 256
-
-abbrev pub longest-recording : ℕ
-longest-recording = 5120
-
-abbrev pub scratch-length : ℕ → ℕ
-scratch-length n = n - 15
 
 -- how many starts of 256 chips a recording of n chips has
 abbrev pub starts : ℕ → ℕ
@@ -43,12 +33,22 @@ best-start chip n = smallest (starts n) (has-largest (starts n) (size-from chip)
 abbrev pub peak : (ℕ → Complex) → ℕ → Peak
 peak chip n = record { start = best-start chip n; size = size-from chip (best-start chip n) }
 
+abbrev pub shortest-recording : ℕ
+shortest-recording = 256
+
+abbrev pub longest-recording : ℕ
+longest-recording = 5120
+
+abbrev pub scratch-length : ℕ → ℕ
+scratch-length n = n - 15
+
+-- Refuses 12; 16 n below 256 or above 5120; 17; 18 a scratch buffer shorter than n-15. The scratch buffers have m and m′ entries.
 abbrev pub find-refusals : List ℤ → List ℤ → ℕ → ℕ → List Refusal
 find-refusals re im m m′ =
     12 if not (eqb (length re) (length im)) ∷
     16 if (ltb (length re) shortest-recording || ltb longest-recording (length re)) ∷
     17 if (outside re || outside im) ∷
-    18 if one-shorter m m′ (scratch-length (length re)) ∷ []
+    18 if either-shorter m m′ (scratch-length (length re)) ∷ []
 
 abbrev pub find-call : List ℤ → List ℤ → ℕ → ℕ → Answer Peak
 find-call re im m m′ = find-refusals re im m m′ otherwise peak (value re im) (length re)

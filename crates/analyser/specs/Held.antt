@@ -8,12 +8,12 @@ use mathlib.Core.List.{List}
 use lib.ListN.{getD}
 use lib.Signed.{leZ, ltZ}
 use Rattle.complex.specs.declared.Complex.{Complex}
-use Rattle.complex.specs.Arithmetic.{_+j_, real, _⊗_, conj, Σ<, Σℤ<, squared-size}
+use Rattle.complex.specs.Arithmetic.{_+j_, real, 𝟎, _⊗_, conj, Σ<, Σℤ<, squared-size}
 use Rattle.complex.specs.Buffers.{listed, value}
-use Rattle.complex.proofs.Sizes.{Within}
+use Rattle.complex.specs.Fits.{Within}
 use Rattle.codes.specs.declared.ModulatedCode.{ModulatedCode}
 use Rattle.codes.specs.declared.Allocated.{Allocated}
-use Rattle.codes.specs.SyncCodes.{a-signs, b}
+use Rattle.codes.specs.SyncCodes.{a-signs, is-sync-code}
 use Rattle.codes.specs.Held.{packed, secondary-row, sign-bit}
 use Rattle.codes.specs.Tree.{element}
 use Rattle.codes.specs.Scrambling.{scrambling}
@@ -36,9 +36,9 @@ part-sums x row = listed 16 (λ m. signed-sum x (m * 16) 1 row)
 unfoldable pub correlated : List ℤ → List ℤ → ℕ → Complex
 correlated re im signs = (signed-sum re 0 1 signs +j signed-sum im 0 1 signs) ⊗ conj (pos 1 +j pos 1)
 
--- the correlation with secondary code i times the conjugate of p
+-- the correlation with secondary code i times the conjugate of p, from the sums of the parts against b; 0 where no code has the number
 unfoldable pub product : List ℤ → List ℤ → Complex → ℕ → Complex
-product re im p i = correlated (part-sums re (packed b)) (part-sums im (packed b)) (secondary-row i) ⊗ conj p
+product re im p i = cond (is-sync-code i) (correlated re im (secondary-row i) ⊗ conj p) 𝟎
 
 -- from such products d, what a code adds to a score, and a score
 unfoldable pub share-of : (ℕ → Complex) → ModulatedCode → ℤ
@@ -68,8 +68,8 @@ unfoldable pub weighed : (ℕ → Complex) → (ℕ → Complex) → ℕ → ℕ
 weighed chip w from q = Σ< q (λ i. chip (from + i) ⊗ w ((from + i) % 16))
 
 -- the larger of two values, the earlier one where they are equal
-abbrev pub or-later : Largest → ℕ → ℤ → Largest
-or-later b n v = cond (ltZ (b .value) v) (record { at = n; value = v }) b
+abbrev pub or-later : Largest → Largest → Largest
+or-later b c = cond (ltZ (b .value) (c .value)) c b
 
 -- of n values s, the largest, the earliest where several are
 pub record Peaks (s : ℕ → ℤ) (n : ℕ) (b : Largest) : Type 0 where

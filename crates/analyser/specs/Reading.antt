@@ -13,10 +13,10 @@ use Rattle.codes.specs.Scrambling.{scrambling}
 use Rattle.codes.specs.Refusals.{Answer, refused, gives, Refusal, _if_, _otherwise_}
 use Rattle.analyser.specs.declared.ReadAnswer.{ReadAnswer}
 use Rattle.analyser.specs.declared.ReadAnswer.the-variants.{Read, Refused}
-use Rattle.analyser.specs.Components.{outside, one-shorter}
+use Rattle.analyser.specs.Components.{outside, either-shorter}
 
 -- Reading n is the sum over the n-th Q chips of chip × conj(complex scrambling element) × code element.
--- Chip q of a field has complex scrambling element 1 + (q mod 16).
+-- n counts from 0, and chip q of a field, from 0, has complex scrambling element 1 + (q mod 16).
 unfoldable pub reading : ℕ → ℕ → ℕ → (ℕ → Complex) → ℕ → Complex
 reading p Q k chip n = Σ< Q (λ i. chip (n * Q + i) ⊗ conj (scrambling p (1 + (n * Q + i) % 16)) ⊗ real (element Q k i))
 
@@ -37,7 +37,7 @@ read-refusals p Q k re im m m′ =
     12 if not (eqb (length re) (length im)) ∷
     16 if no-field (length re) ∷
     17 if (outside re || outside im) ∷
-    18 if one-shorter m m′ (length re / Q) ∷ []
+    18 if either-shorter m m′ (length re / Q) ∷ []
 
 -- the answer: length/Q readings
 abbrev pub read-call : ℕ → ℕ → ℕ → List ℤ → List ℤ → ℕ → ℕ → Answer Values

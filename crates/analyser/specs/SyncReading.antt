@@ -30,14 +30,15 @@ S chip i = correlation chip (C i)
 abbrev pub P : (ℕ → Complex) → Complex
 P chip = correlation chip Cp
 
--- Each group, frame and half of the case is a candidate (half 0 alone in case 1).
+-- a candidate: a group, a frame and a half
 abbrev pub of-group : ℕ → ℕ → ℕ → Candidate
 of-group g f h = record { group = record { 0 = g }; frame = f; half = h }
 
--- how many there are, and number n of them: group by group, in a group frame by frame
+-- Each group, frame and half of the case is a candidate (half 0 alone in case 1): 32 groups with two frames, in case 2 with two halves each.
 abbrev pub candidates : ℕ → ℕ
 candidates case = cond (eqb case 1) 64 128
 
+-- number n of them, from 0: group by group, in a group frame by frame, in a frame half by half (`has-number` in the crate demands: each one has its number)
 unfoldable pub candidate : ℕ → ℕ → Candidate
 candidate case n = cond (eqb case 1) (of-group (n / 2) (1 + n % 2) 0) (of-group (n / 4) (1 + n / 2 % 2) (n % 2))
 
@@ -59,10 +60,10 @@ score case chip n = total-share chip (sent case (candidate case n))
 abbrev pub winner : ℕ → (ℕ → Complex) → ℕ
 winner case chip = smallest (candidates case) (beats-others (candidates case) (score case chip))
 
--- Refuses 14; 12; 16 length not 256; 17; 19 where no candidate beats all others, and only there.
 abbrev pub sync-length : ℕ
 sync-length = 256
 
+-- Refuses 14; 12; 16 length not 256; 17;
 abbrev pub sync-refusals : ℕ → List ℤ → List ℤ → List Refusal
 sync-refusals case re im =
     14 if not (one-or-two case) ∷
@@ -70,6 +71,7 @@ sync-refusals case re im =
     16 if not (eqb (length re) sync-length) ∷
     17 if (outside re || outside im) ∷ []
 
+-- 19 where no candidate beats all others, and only there.
 abbrev pub read-sync-call : ℕ → List ℤ → List ℤ → Answer Candidate
 read-sync-call case re im =
     sync-refusals case re im ++ (19 if eqb (winner case (value re im)) (candidates case) ∷ []) otherwise candidate case (winner case (value re im))

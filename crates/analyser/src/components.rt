@@ -1,7 +1,7 @@
 // The tests of components and of buffer lengths.
 ghost use mathlib.Core.Path.{_≡_};
 ghost use mathlib.Core.Bool.{_||_};
-ghost use Rattle.analyser.specs.Components.{in-range, outside, one-shorter};
+ghost use Rattle.analyser.specs.Components.{in-range, outside, either-shorter};
 
 // Whether x is from -100000 to 100000.
 fn is_in_range(x: i32) -> bool
@@ -11,7 +11,7 @@ fn is_in_range(x: i32) -> bool
 }
 
 // Whether a component is out of range. All are looked at, for that is faster than to stop at the first.
-pub fn any_outside(x: &[i32]) -> bool
+fn any_outside(x: &[i32]) -> bool
     ensures { λ r. ⌜ r ≡ outside (now (x .entry)) ⌝ }
 {
     let mut found = false;
@@ -28,9 +28,9 @@ pub fn either_outside(re: &[i32], im: &[i32]) -> bool
     any_outside(re) || any_outside(im)
 }
 
-// Whether one of two buffers, of m and n entries, has fewer than `least`.
-pub fn is_one_shorter(m: usize, n: usize, least: usize) -> bool
-    ensures { λ r. ⌜ r ≡ one-shorter m n least ⌝ }
+// Whether either of two buffers, of m and n entries, has fewer than `least`.
+pub fn is_either_shorter(m: usize, n: usize, least: usize) -> bool
+    ensures { λ r. ⌜ r ≡ either-shorter m n least ⌝ }
 {
     m < least || n < least
 }

@@ -1,12 +1,12 @@
 // Finding the primary code in a recording.
 ghost use mathlib.Core.Path.{_≡_};
 ghost use mathlib.Core.Bool.{_||_};
-ghost use Prim.Native.Nat.{_+_, _-_, _<_, _≤_};
+ghost use Prim.Native.Nat.{_+_, _<_, _≤_};
 ghost use lib.Dec.{ltb};
 ghost use lib.ListN.{length};
 ghost use Rattle.complex.specs.Arithmetic.{squared-size};
 ghost use Rattle.complex.specs.Buffers.{listed, value, written};
-ghost use Rattle.complex.proofs.Components.{Both};
+ghost use Rattle.complex.specs.Fits.{Both};
 ghost use Rattle.codes.specs.Refusals.{number};
 ghost use Rattle.codes.specs.SyncCodes.{a};
 ghost use Rattle.codes.specs.Held.{packed};
@@ -22,7 +22,7 @@ use crate::sums::wide;
 use codes::sync;
 use complex::Complex;
 
-// Whether a recording has n chips: 256 to 5120.
+// Whether no recording has n chips: a recording has 256 to 5120.
 fn is_no_recording(n: usize) -> bool
     ensures { λ r. ⌜ r ≡ (ltb n shortest-recording || ltb longest-recording n) ⌝ }
 {
@@ -42,7 +42,7 @@ pub fn refusal(re: &[i32], im: &[i32], m: usize, n: usize) -> u32
     if components::either_outside(re, im) {
         return 17;
     }
-    if components::is_one_shorter(m, n, re.len() - 15) {
+    if components::is_either_shorter(m, n, re.len() - 15) {
         return 18;
     }
     0
@@ -92,7 +92,11 @@ fn strongest(re: &[i32], im: &[i32], count: usize) -> Largest
         value: size(re, im, 0),
     };
     for start in 1..count {
-        best = best.or_later(start, size(re, im, start));
+        let next = Largest {
+            at: start,
+            value: size(re, im, start),
+        };
+        best = best.or_later(next);
     }
     best
 }

@@ -1,6 +1,6 @@
 // Hard bits of readings.
 ghost use mathlib.Core.Path.{_≡_};
-ghost use Prim.Native.Nat.{_*_, _<_, _≤_};
+ghost use Prim.Native.Nat.{_*_, _≤_};
 ghost use lib.ListN.{length};
 ghost use Rattle.complex.specs.Buffers.{listed, value, written};
 ghost use Rattle.analyser.specs.Hardening.{hard-bit, hard-pair};
@@ -13,14 +13,23 @@ use complex::Complex;
 fn pair(y: Complex) -> usize
     ensures { λ r. ⌜ r ≡ hard-pair y ⌝ }
 {
-    let best = Largest {
+    let first = Largest {
         at: 0,
         value: wide(y.im),
     };
-    best.or_later(1, wide(y.re))
-        .or_later(2, minus(y.re))
-        .or_later(3, minus(y.im))
-        .at
+    let second = Largest {
+        at: 1,
+        value: wide(y.re),
+    };
+    let third = Largest {
+        at: 2,
+        value: minus(y.re),
+    };
+    let fourth = Largest {
+        at: 3,
+        value: minus(y.im),
+    };
+    first.or_later(second).or_later(third).or_later(fourth).at
 }
 
 // Two bits for each reading.

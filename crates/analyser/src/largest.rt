@@ -9,14 +9,11 @@ pub struct Largest {
 
 impl Largest {
     // A later value takes the place only where it is larger.
-    pub fn or_later(self, at: usize, value: i64) -> Largest
-        ensures { λ r. ⌜ r ≡ or-later self at value ⌝ }
+    pub fn or_later(self, later: Largest) -> Largest
+        ensures { λ r. ⌜ r ≡ or-later self later ⌝ }
     {
-        if self.value < value {
-            Largest {
-                at: at,
-                value: value,
-            }
+        if self.value < later.value {
+            later
         } else {
             self
         }

@@ -1,7 +1,7 @@
 // Readings of a code from a field.
 ghost use mathlib.Core.Path.{_≡_};
-ghost use mathlib.Core.Bool.{not, true};
-ghost use Prim.Native.Nat.{_+_, _*_, _/_, _<_, _≤_};
+ghost use mathlib.Core.Bool.{true};
+ghost use Prim.Native.Nat.{_+_, _/_, _<_, _≤_};
 ghost use lib.ListN.{length};
 ghost use Rattle.complex.specs.Buffers.{listed, value, written};
 ghost use Rattle.codes.specs.Refusals.{number};
@@ -14,7 +14,7 @@ use codes::scrambling;
 use codes::tree;
 use complex::Complex;
 
-// Whether a field has n chips: 16 to 1104, a multiple of 16.
+// Whether no field has n chips: a field has 16 to 1104, a multiple of 16.
 fn is_no_field(n: usize) -> bool
     ensures { λ r. ⌜ r ≡ no-field n ⌝ }
 {
@@ -51,7 +51,7 @@ pub fn refusal(
     if components::either_outside(re, im) {
         return 17;
     }
-    if components::is_one_shorter(m, n, re.len() / q as usize) {
+    if components::is_either_shorter(m, n, re.len() / q as usize) {
         return 18;
     }
     0

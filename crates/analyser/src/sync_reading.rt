@@ -1,17 +1,15 @@
 // Reading a sync burst: correlations with the codes, and the candidate that beats every other.
 ghost use mathlib.Core.Path.{_≡_};
-ghost use mathlib.Core.Bool.{true};
-ghost use Prim.Native.Nat.{_*_, _<_, _≤_};
-ghost use lib.IntN.{_+ℤ_};
+ghost use Prim.Native.Nat.{_<_};
 ghost use lib.ListN.{length};
 ghost use Rattle.complex.specs.Arithmetic.{_+j_, _⊗_, conj};
 ghost use Rattle.complex.specs.Buffers.{listed, value};
-ghost use Rattle.complex.proofs.Components.{Both};
-ghost use Rattle.codes.specs.Allocation.{one-or-two};
+ghost use Rattle.complex.specs.Fits.{Both};
 ghost use Rattle.codes.specs.Refusals.{number};
-ghost use Rattle.codes.specs.Held.{secondary-row};
+ghost use Rattle.codes.specs.Held.{packed};
+ghost use Rattle.codes.specs.SyncCodes.{b};
 ghost use Rattle.analyser.specs.SyncReading.{candidate as candidate-of, candidates, P, score as score-of, sent, sync-refusals};
-ghost use Rattle.analyser.specs.Held.{Bound, correlated, Leads, met as met-by, part-sums, product, share-of, shares-of};
+ghost use Rattle.analyser.specs.Held.{Bound, correlated, Leads, met as met-by, part-sums, product as product-of, share-of, shares-of};
 use crate::Candidate;
 use crate::components;
 use crate::sums::minus;
@@ -98,7 +96,18 @@ fn times_conjugate(s: Complex, p: Complex) -> WideComplex
     }
 }
 
-// The sixteen products, component by component.
+// The correlation with secondary code i times the conjugate of p, from the sums of the parts; 0 where no code has the number.
+fn product(re: &[i32; 16], im: &[i32; 16], p: Complex, i: u32) -> WideComplex
+    requires { ⌜ Bound 1600000 (now re) × Bound 1600000 (now im) × Both 51200000 p ⌝ }
+    ensures { λ r. ⌜ r .re +j r .im ≡ product-of (now (re .entry)) (now (im .entry)) p i ⌝ }
+{
+    if !sync::is_sync_code(i) {
+        return WideComplex { re: 0, im: 0 };
+    }
+    times_conjugate(correlation(re, im, sync::secondary_row(i)), p)
+}
+
+// The products of all numbers below sixteen, component by component.
 pub struct SecondaryProducts {
     pub re: [i64; 16],
     pub im: [i64; 16],
@@ -107,15 +116,14 @@ pub struct SecondaryProducts {
 // The correlations with the secondary codes, each times the conjugate of p.
 fn products(re: &[i32], im: &[i32], p: Complex) -> SecondaryProducts
     requires { ⌜ (length (now re) ≡ 256) × (length (now im) ≡ 256) × Bound 100000 (now re) × Bound 100000 (now im) × Both 51200000 p ⌝ }
-    ensures { λ r. ⌜ (r .re ≡ listed 16 (λ i. product (now (re .entry)) (now (im .entry)) p i .re)) × (r .im ≡ listed 16 (λ i. product (now (re .entry)) (now (im .entry)) p i .im)) ⌝ }
+    ensures { λ r. ⌜ (r .re ≡ listed 16 (λ i. product-of (part-sums (now (re .entry)) (packed b)) (part-sums (now (im .entry)) (packed b)) p i .re)) × (r .im ≡ listed 16 (λ i. product-of (part-sums (now (re .entry)) (packed b)) (part-sums (now (im .entry)) (packed b)) p i .im)) ⌝ }
 {
     let b = parts(re, sync::b_row());
     let c = parts(im, sync::b_row());
     let mut x = [0i64; 16];
     let mut y = [0i64; 16];
     for i in 0..16 {
-        let s = correlation(&b, &c, sync::secondary_row(i as u32));
-        let d = times_conjugate(s, p);
+        let d = product(&b, &c, p, i as u32);
         let u = d.re;
         let v = d.im;
         x[i] = u;

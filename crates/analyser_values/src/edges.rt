@@ -1,4 +1,4 @@
-// The calls at and past the limits of their arguments.
+// The calls at and past the limits of their arguments. The lists here and those of tools/analyser_vectors.py are the same.
 use crate::finding;
 use crate::form;
 use crate::form::Row;

@@ -1,6 +1,5 @@
 // Chips, noise, sync bursts and digests. A signed number is computed with as its two's complement, modulo 2^32.
 use codes::Allocated;
-use codes::CodeGroup;
 use codes::ModulatedCode;
 
 // Up to 5121 chips, or readings: the re entries, and from IM on the im entries.

@@ -14,6 +14,7 @@ pub fn all() {
     level(Gains(1, 1, 0));
     level(Gains(1, 4095, 0));
     level(Gains(4095, 1, 0));
+    level(Gains(100, 100, 200));
     level(Gains(100, 100, 2000));
     level(Gains(0, 0, 90000));
     parts(1);

@@ -9,8 +9,9 @@ use lib.Dec.{T, eqb, leb, leb→le, lit≤}
 use borrow.Author.Tests.{leb-false}
 use lib.IntN.{ℤ, natAbs}
 use Rattle.complex.specs.Arithmetic.{real, 𝟎, 𝟏, 𝐣}
-use Rattle.complex.proofs.Sizes.{Within, within-mul}
-use Rattle.complex.proofs.Components.{Both, both-sign}
+use Rattle.complex.specs.Fits.{Within, Both}
+use Rattle.complex.proofs.Sizes.{within-mul}
+use Rattle.complex.proofs.Components.{both-sign}
 use Rattle.codes.specs.declared.ModulatedCode.{ModulatedCode}
 use Rattle.codes.specs.declared.Allocated.{Allocated}
 use Rattle.codes.specs.Range.{each}

@@ -10,7 +10,7 @@ use borrow.Author.Tests.{le-ltb}
 use lib.Dec.{T, eqb, eqb→eq, leb, leb→le, lit≤, ltb, ltb→lt}
 use lib.IntN.{pos, natAbs}
 use lib.ListN.{getD, length, List·getD-eq-default}
-use Rattle.complex.proofs.Sizes.{Within}
+use Rattle.complex.specs.Fits.{Within}
 use Rattle.codes.specs.Signs.{_at_}
 use Rattle.codes.specs.Held.{packed, sign-bit, leaf-rows}
 use Rattle.codes.specs.Tree.{spreading-factors, is-spreading-factor, is-code, code, element, at-or-above, related, width, overlap}

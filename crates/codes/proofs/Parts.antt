@@ -13,7 +13,7 @@ use lib.Dec.{T, eqb, ltb, lit<, lit≤}
 use lib.IntN.{ℤ, pos, _*ℤ_, zero-*ℤ}
 use lib.ListN.{List·getD-eq-default}
 use Rattle.complex.specs.Arithmetic.{_+j_, real, _⊗_}
-use Rattle.complex.proofs.Sizes.{Within}
+use Rattle.complex.specs.Fits.{Within}
 use Rattle.codes.specs.Signs.{_at_, minus-if}
 use Rattle.codes.specs.SyncCodes.{a, a-signs, b, b-signs, repeated, Cp, z, hadamard, hadamard-part, is-sync-code, sync-codes, C}
 use Rattle.codes.specs.Held.{sign-bit, secondary-row}

@@ -11,7 +11,7 @@ use native.Mathlib.Omega.{arith}
 use lib.Dec.{T, eqb, ltb, lit≤}
 use lib.IntN.{ℤ, pos}
 use lib.ListN.{length, List·getD-eq-default}
-use Rattle.complex.proofs.Sizes.{Within}
+use Rattle.complex.specs.Fits.{Within}
 use Rattle.codes.specs.Signs.{_at_, minus-if}
 use Rattle.codes.specs.Held.{packed, sign-bit}
 use Rattle.codes.specs.AnnexA.{annex-A}

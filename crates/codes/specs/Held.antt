@@ -37,8 +37,8 @@ from k (suc n) = k ∷ from (suc k) n
 abbrev pub leaf-rows : List ℕ
 leaf-rows = map (λ x. packed (code 16 x)) (from 0 16)
 
--- the signs of secondary code i over its sixteen parts, those of z times those of the Hadamard matrix (`hadamard-part-is`);
--- 0 where i is above 15
+-- the signs of z over its sixteen parts times those of row 16i of the Hadamard matrix (`hadamard-part-is`): where secondary code i is listed,
+-- the signs of its parts; 0 where i is above 15
 unfoldable pub secondary-row : ℕ → ℕ
 secondary-row i = cond (ltb i 16) (packed (map (λ m. b-signs at m *ℤ minus-if (eqb (ones (bitAnd i m) % 2) 1)) (from 0 16))) 0
 

@@ -33,6 +33,7 @@ abbrev pub after : {A B : Type 0} → Answer A → B → (A → B) → B
 after (refused n) b f = b
 after (gives a) b f = f a
 
+-- ---- what only the code needs
 -- the number of the first refusal whose condition holds; 0, which is no refusal's, where none does
 abbrev pub number : List Refusal → ℕ
 number [] = 0

@@ -8,14 +8,10 @@ use mir.Syntax.{w32}
 use mir.Val.{hbits}
 use Rattle.complex.specs.declared.Complex.{Complex}
 use Rattle.complex.specs.Arithmetic.{real, 𝟎, 𝐣, _⊕_, _⊗_, conj, j^, Σ<, Σℤ<}
-use Rattle.complex.specs.Fits.{Fits32, ProductFits32}
-use Rattle.complex.proofs.Sizes.{Within, within-neg, within-more, within-add, within-sub, within-mul, fits-within}
+use Rattle.complex.specs.Fits.{Within, Both, Fits32, ProductFits32}
+use Rattle.complex.proofs.Sizes.{within-neg, within-more, within-add, within-sub, within-mul, fits-within}
 use Rattle.complex.proofs.Ring.{𝟏-⊗, ⊗-assoc, real-⊗}
 use Rattle.complex.proofs.Rotations.{𝐣-⊗}
-
-pub record Both (k : ℕ) (x : Complex) : Type 0 where
-  pub re : Within k (x .re)
-  pub im : Within k (x .im)
 
 module _ {k : ℕ} {x : Complex} (h : Both k x) where
   pub both-more : (l : ℕ) → k ≤ l → Both l x

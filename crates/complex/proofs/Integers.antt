@@ -123,3 +123,6 @@ negsuc-zero-*ℤ x = negℤ-*ℤ (pos 1) x ∙ ap negℤ (pos-one-*ℤ x)
 
 -- an equation of the ring in which nothing cancels: `simp ring`
 pub ruleset ring = (+ℤ-assoc, +ℤ-comm, +ℤ-left, *ℤ-assoc, *ℤ-comm, *ℤ-left, *ℤ-+ℤ, +ℤ-*ℤ, negℤ-+ℤ, negℤ-negℤ, negℤ-*ℤ, *ℤ-negℤ, +ℤ-idl, +ℤ-idr, zero-*ℤ, *ℤ-zero, pos-one-*ℤ, *ℤ-pos-one)
+
+pub *ℤ-swap : (x y z : ℤ) → (x *ℤ y) *ℤ z ≡ (x *ℤ z) *ℤ y
+*ℤ-swap x y z = simp ring

@@ -115,3 +115,6 @@ real-one-plus-j x = by-components by by
 pub ruleset sums = (⊕-assoc, ⊕-comm, ⊕-left)
 
 pub ruleset products = (⊗-assoc, ⊗-comm, ⊗-left)
+
+pub ⊗-swap : (x y z : Complex) → (x ⊗ y) ⊗ z ≡ (x ⊗ z) ⊗ y
+⊗-swap x y z = simp products

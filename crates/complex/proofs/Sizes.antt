@@ -8,11 +8,8 @@ use lib.IntN.{ℤ, pos, negsuc, negℤ, natAbs, _+ℤ_, _-ℤ_, _*ℤ_}
 use lib.Signed.{mag}
 use mir.Syntax.{Width}
 use mir.Val.{SFits, hbits}
+use Rattle.complex.specs.Fits.{Within}
 use Rattle.complex.proofs.Integers.{pos-part, neg-part, abs-parts, negℤ-pos-part, negℤ-neg-part, +ℤ-parts}
-
--- z is at most k in size: a record, so that k and z are inferred from it
-pub record Within (k : ℕ) (z : ℤ) : Type 0 where
-  pub size : natAbs z ≤ k
 
 abs-neg : (z : ℤ) → natAbs (negℤ z) ≡ natAbs z
 abs-neg z = omega (arith, abs-parts z, abs-parts (negℤ z), negℤ-pos-part z, negℤ-neg-part z)

@@ -2,20 +2,21 @@
 -- agree with the candidate's. Assumes nothing.
 use mathlib.Core.Path.{_≡_, refl, sym, ap, ap₂, _∙_}
 use mathlib.Core.Bool.{Bool, true, false, cond}
-use Prim.Native.Nat.{ℕ, _+_, _*_, _<_, _≤_}
+use Prim.Native.Nat.{ℕ, suc, _*_, _<_, compare·zero-suc, compare·suc-zero, compare·suc-suc}
 use lib.Dec.{T, eqb}
-use lib.IntN.{ℤ, pos, natAbs, _+ℤ_, _*ℤ_, zero-*ℤ, negℤ-negℤ}
+use lib.IntN.{ℤ, pos, _+ℤ_, _*ℤ_, zero-*ℤ, negℤ-negℤ}
 use Rattle.complex.specs.declared.Complex.{Complex}
-use Rattle.complex.specs.Arithmetic.{real, _⊕_, _⊗_, conj}
+use Rattle.complex.specs.Arithmetic.{real, 𝟎, _⊕_, _⊗_, conj}
 use Rattle.complex.proofs.Integers.{ring, *ℤ-negℤ, *ℤ-+ℤ}
 use Rattle.complex.proofs.Ring.{products, ⊗-assoc, ⊕-⊗, ⊗-⊕, ⊗-𝟎, ⊕-𝟎, 𝟎-⊕, conj-⊗, conj-real, real-*ℤ, real-⊗}
 use Rattle.complex.proofs.Sums.{Σ-cong, Σ-⊕, ⊗-Σ}
 use Rattle.codes.specs.declared.ModulatedCode.{ModulatedCode}
 use Rattle.codes.specs.declared.Allocated.{Allocated}
-use Rattle.codes.specs.SyncCodes.{Cp, C, is-sync-code}
+use Rattle.codes.specs.SyncCodes.{Cp}
 use Rattle.codes.specs.Burst.{secondaries}
+use Rattle.codes.proofs.Allocations.{Known, AllKnown}
 use Rattle.analyser.specs.SyncReading.{correlation, S, P, share, total-share}
-use Rattle.demands.proofs.SyncOrthogonality.{weight, primary-primary, primary-secondary, secondary-primary, secondary-secondary}
+use Rattle.demands.proofs.SyncOrthogonality.{sync-code, has-code, overlap, orthogonal}
 
 -- ---- a correlation is linear in the chips
 module _ (code : ℕ → Complex) where
@@ -52,29 +53,23 @@ agreement s t = heard s (t .first) +ℤ heard s (t .second) +ℤ heard s (t .mar
 arrange : (x y z u p q g : Complex) → ((g ⊗ (x ⊕ y ⊕ z)) ⊗ u) ⊗ (p ⊗ q) ≡ (g ⊗ (p ⊗ q)) ⊗ (x ⊗ u ⊕ y ⊗ u ⊕ z ⊗ u)
 arrange x y z u p q g = simp (⊗-⊕, ⊕-⊗, products)
 
-weight-first : (u w v : Complex) → (u ⊗ w) ⊗ v ≡ w ⊗ (u ⊗ v)
-weight-first u w v = simp products
+overlap-first : (u w v : Complex) → (u ⊗ w) ⊗ v ≡ w ⊗ (u ⊗ v)
+overlap-first u w v = simp products
 
 re-of : (u v : Complex) → (u ⊗ conj v) .re ≡ along u v
 unfolding _⊗_ conj along
 re-of u v = simp (*ℤ-negℤ, negℤ-negℤ)
 
-either : (c : Bool) (x : ℤ) → cond c (pos 512) (pos 0) *ℤ x ≡ pos 512 *ℤ cond c x (pos 0)
-either true x = refl
-either false x = zero-*ℤ x
+overlap-times : (c : Bool) (x : ℤ) → cond c (pos 512) (pos 0) *ℤ x ≡ pos 512 *ℤ cond c x (pos 0)
+overlap-times true x = refl
+overlap-times false x = zero-*ℤ x
 
 gather : (k w x y z : ℤ) → k *ℤ (w *ℤ x +ℤ w *ℤ y +ℤ w *ℤ z) ≡ (k *ℤ w) *ℤ (x +ℤ y +ℤ z)
 gather k w x y z = simp ring
 
--- a sync code, with a unit that makes no component larger
-pub record Modulated (m : ModulatedCode) : Type 0 where
-  pub code : T (is-sync-code (m .code))
-  pub unit : natAbs (m .unit .re) + natAbs (m .unit .im) ≤ 1
-
-pub record Sent (s : Allocated) : Type 0 where
-  pub first : Modulated (s .first)
-  pub second : Modulated (s .second)
-  pub marker : Modulated (s .marker)
+no-overlap : real (pos 0) ≡ 𝟎
+unfolding real 𝟎
+no-overlap = refl
 
 -- the chips of a burst with these codes
 unfoldable pub chips : ℕ → ℕ → Allocated → ℕ → Complex
@@ -84,40 +79,38 @@ chips gP gS s n = real (pos gP) ⊗ Cp n ⊕ real (pos gS) ⊗ secondaries s n
 abbrev pub scale : ℕ → ℕ → ℕ
 scale gP gS = gS * (gP * 512) * 512
 
-module _ (gP gS : ℕ) (s : Allocated) (c : Sent s) where
-  by-codes : (code : ℕ → Complex) → correlation (chips gP gS s) code
-      ≡ real (pos gP) ⊗ correlation Cp code
-      ⊕ real (pos gS) ⊗ (s .first .unit ⊗ correlation (C (s .first .code)) code ⊕ s .second .unit ⊗ correlation (C (s .second .code)) code ⊕ s .marker .unit ⊗ correlation (C (s .marker .code)) code)
+module _ (gP gS : ℕ) (s : Allocated) (c : AllKnown s) where
+  by-codes : (y : ℕ) → T (has-code y) → correlation (chips gP gS s) (sync-code y)
+      ≡ real (pos gP) ⊗ real (overlap 0 y)
+      ⊕ real (pos gS) ⊗ (s .first .unit ⊗ real (overlap (suc (s .first .code)) y) ⊕ s .second .unit ⊗ real (overlap (suc (s .second .code)) y) ⊕ s .marker .unit ⊗ real (overlap (suc (s .marker .code)) y))
   unfolding chips secondaries
-  by-codes code = simp (correlation-⊕, correlation-⊗)
+  by-codes y t =
+      simp (correlation-⊕, correlation-⊗)
+      (rw (
+        orthogonal 0 y tt t,
+        orthogonal (suc (s .first .code)) y (c .first .listed) t,
+        orthogonal (suc (s .second .code)) y (c .second .listed) t,
+        orthogonal (suc (s .marker .code)) y (c .marker .listed) t,
+      ))
 
   primary : P (chips gP gS s) ≡ real (pos gP) ⊗ real (pos 512)
-  primary =
-      by-codes Cp
-      ∙ rw (primary-primary, secondary-primary _ (c .first .code), secondary-primary _ (c .second .code), secondary-primary _ (c .marker .code)) (simp (⊗-𝟎, ⊕-𝟎))
+  primary = by-codes 0 tt ∙ simp (compare·suc-zero, no-overlap, ⊗-𝟎, ⊕-𝟎)
 
-  module _ (m : ModulatedCode) (t : Modulated m) where
+  module _ (m : ModulatedCode) (t : Known m) where
     -- what the code is heard with
     part : ModulatedCode → Complex
-    part n = n .unit ⊗ real (weight (n .code) (m .code))
+    part n = n .unit ⊗ real (overlap (n .code) (m .code))
 
     secondary : S (chips gP gS s) (m .code) ≡ real (pos gS) ⊗ (part (s .first) ⊕ part (s .second) ⊕ part (s .marker))
     unfolding part
-    secondary =
-        by-codes (C (m .code))
-        ∙ rw (
-          primary-secondary (m .code) (t .code),
-          secondary-secondary _ (c .first .code) (m .code) (t .code),
-          secondary-secondary _ (c .second .code) (m .code) (t .code),
-          secondary-secondary _ (c .marker .code) (m .code) (t .code),
-        ) (simp (⊗-𝟎, 𝟎-⊕))
+    secondary = by-codes (suc (m .code)) (t .listed) ∙ simp (compare·zero-suc, compare·suc-suc, no-overlap, ⊗-𝟎, 𝟎-⊕)
 
     turned : (n : ModulatedCode) → (part n ⊗ conj (m .unit)) .re ≡ pos 512 *ℤ match n m
     unfolding part match
     turned n =
-        ap (λ (x : Complex). x .re) (weight-first (n .unit) (real (weight (n .code) (m .code))) (conj (m .unit)) ∙ real-⊗ (weight (n .code) (m .code)) (n .unit ⊗ conj (m .unit)))
-        ∙ ap (λ (x : ℤ). weight (n .code) (m .code) *ℤ x) (re-of (n .unit) (m .unit))
-        ∙ either (eqb (n .code) (m .code)) (along (n .unit) (m .unit))
+        ap (λ (x : Complex). x .re) (overlap-first (n .unit) (real (overlap (n .code) (m .code))) (conj (m .unit)) ∙ real-⊗ (overlap (n .code) (m .code)) (n .unit ⊗ conj (m .unit)))
+        ∙ ap (λ (x : ℤ). overlap (n .code) (m .code) *ℤ x) (re-of (n .unit) (m .unit))
+        ∙ overlap-times (eqb (n .code) (m .code)) (along (n .unit) (m .unit))
 
     whole : S (chips gP gS s) (m .code) ⊗ conj (m .unit) ⊗ conj (P (chips gP gS s))
         ≡ real (pos (gS * (gP * 512))) ⊗ (part (s .first) ⊗ conj (m .unit) ⊕ part (s .second) ⊗ conj (m .unit) ⊕ part (s .marker) ⊗ conj (m .unit))
@@ -125,13 +118,13 @@ module _ (gP gS : ℕ) (s : Allocated) (c : Sent s) where
         rw (secondary, primary, conj-⊗, conj-real (pos gP), conj-real (pos 512), arrange)
         (rw (← (real-*ℤ (pos gP) (pos 512)), ← (real-*ℤ (pos gS) (pos (gP * 512)))))
 
-    shared : share (chips gP gS s) m ≡ pos (scale gP gS) *ℤ heard s m
+    share-heard : share (chips gP gS s) m ≡ pos (scale gP gS) *ℤ heard s m
     unfolding share _⊕_ heard
-    shared =
+    share-heard =
         ap (λ (x : Complex). x .re) (whole ∙ real-⊗ (pos (gS * (gP * 512))) _)
         ∙ ap (λ (x : ℤ). pos (gS * (gP * 512)) *ℤ x) (ap₂ _+ℤ_ (ap₂ _+ℤ_ (turned (s .first)) (turned (s .second))) (turned (s .marker)))
         ∙ gather (pos (gS * (gP * 512))) (pos 512) (match (s .first) m) (match (s .second) m) (match (s .marker) m)
 
-  pub score-of : (t : Allocated) → Sent t → total-share (chips gP gS s) t ≡ pos (scale gP gS) *ℤ agreement s t
+  pub score-of : (t : Allocated) → AllKnown t → total-share (chips gP gS s) t ≡ pos (scale gP gS) *ℤ agreement s t
   unfolding agreement
-  score-of t d = rw (shared (t .first) (d .first), shared (t .second) (d .second), shared (t .marker) (d .marker)) (simp (*ℤ-+ℤ))
+  score-of t d = rw (share-heard (t .first) (d .first), share-heard (t .second) (d .second), share-heard (t .marker) (d .marker)) (simp (*ℤ-+ℤ))

@@ -12,10 +12,10 @@ use lib.ListN.{length}
 use Rattle.complex.specs.declared.Complex.{Complex}
 use Rattle.complex.specs.Arithmetic.{_⊗_, conj}
 use Rattle.complex.specs.Buffers.{value, in-buffers, Values}
+use Rattle.complex.specs.Fits.{Both}
 use Rattle.complex.proofs.Lists.{length-listed, value-in-buffers}
 use Rattle.complex.proofs.Order.{times-ltZ}
 use Rattle.complex.proofs.Sizes.{within-more}
-use Rattle.complex.proofs.Components.{Both}
 use Rattle.codes.specs.declared.ModulatedCode.{ModulatedCode}
 use Rattle.codes.specs.declared.Allocated.{Allocated}
 use Rattle.codes.specs.Allocation.{one-or-two, is-frame-and-half}
@@ -26,10 +26,10 @@ use Rattle.codes.proofs.Tests.{T-true}
 use Rattle.analyser.specs.declared.Candidate.{Candidate}
 use Rattle.analyser.specs.SyncReading.{of-group, candidate, candidates, share, total-share, score, winner, read-sync-call}
 use Rattle.analyser.specs.Components.{outside}
-use Rattle.analyser.proofs.Choosing.{beats-all}
+use Rattle.analyser.proofs.Leading.{beats-all}
 use Rattle.analyser.proofs.Ranges.{none-outside}
 use Rattle.demands.proofs.BurstCorrelations.{agreement, chips, scale, correlation-cong, score-of}
-use Rattle.demands.proofs.Candidates.{numbered, chosen, is-sent, agrees-less}
+use Rattle.demands.proofs.Candidates.{has-number, chosen, chosen-known, agrees-less}
 use Rattle.demands.proofs.BurstSizes.{chips-within}
 
 -- what stands in the buffers is what is scored
@@ -58,35 +58,35 @@ module _ (case : ℕ) (t : T (one-or-two case)) (own : ℕ) (l : own < candidate
     unfolding score buffers chip chosen
     score-is n k =
         total-cong _ chip (value-in-buffers 256 chip) (chosen case n)
-        ∙ score-of gP gS (chosen case own) (is-sent case t own l) (chosen case n) (is-sent case t n k)
+        ∙ score-of gP gS (chosen case own) (chosen-known case own) (chosen case n) (chosen-known case n)
 
     winner-is : winner case (value (buffers .re) (buffers .im)) ≡ own
     winner-is =
         beats-all (candidates case) (score case (value (buffers .re) (buffers .im))) own l
         (λ n k d. rw (score-is n k, score-is own l)
         (times-ltZ (scale gP gS) above-0 (agreement (chosen case own) (chosen case n)) (agreement (chosen case own) (chosen case own))
-        (agrees-less case t own l n k d)))
+        (agrees-less case t own n l k d)))
       where
         above-0 : 1 ≤ scale gP gS
         above-0 = omega (arith, mul-le-mul q p)
 
-    read-back : read-sync-call case (buffers .re) (buffers .im) ≡ gives (candidate case own)
+    comes-back : read-sync-call case (buffers .re) (buffers .im) ≡ gives (candidate case own)
     unfolding buffers chip
-    read-back =
+    comes-back =
         not-refused (buffers .re) (buffers .im) (length-listed (λ n. chip n .re) 256) (length-listed (λ n. chip n .im) 256)
         (none-outside 256 (λ n. chip n .re) (λ n k. within-more (within n .re) _ (lit≤ tt)))
         (none-outside 256 (λ n. chip n .im) (λ n k. within-more (within n .im) _ (lit≤ tt)))
         winner-is
       where
-        within : (n : ℕ) → Both 16380 (chip n)
-        within = chips-within gP gS (chosen case own) (is-sent case t own l) p′ q′
+        within : (n : ℕ) → Both 28665 (chip n)
+        within = chips-within gP gS (chosen case own) (chosen-known case own) p′ q′
 
--- document 01/demand 2: "a sync burst standing alone, read with its own case, comes back as the group, frame and slot it was made for"
+-- Demand 2: "a sync burst standing alone, read with its own case, comes back as the group, frame and slot it was made for".
 pub burst-read-back : (case g frame half gP gS : ℕ) → T (one-or-two case) → g < 32 → T (is-frame-and-half case frame half) → 1 ≤ gP → gP ≤ 4095 → 1 ≤ gS → gS ≤ 4095
     → let b = in-buffers 256 (burst case g frame half gP gS) in read-sync-call case (b .re) (b .im) ≡ gives (of-group g frame half)
 unfolding burst chips buffers chip chosen
 burst-read-back case g frame half gP gS t h u p p′ q q′ =
-    let n = numbered case g frame half t h u in
+    let n = has-number case g frame half t h u in
     subst
     (λ (c : Candidate). let b = in-buffers 256 (burst case (c .group .0) (c .frame) (c .half) gP gS) in read-sync-call case (b .re) (b .im) ≡ gives c)
-    (n .is) (read-back case t (n .number) (n .below) gP gS p p′ q q′)
+    (n .is) (comes-back case t (n .index) (n .below) gP gS p p′ q q′)

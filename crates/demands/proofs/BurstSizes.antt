@@ -1,24 +1,26 @@
--- The components of a sync burst's chips are at most 16380 in size. Assumes nothing.
+-- The components of a sync burst's chips are at most 28665 in size. Assumes nothing.
 use mathlib.Core.Path.{sym, subst}
 use mathlib.Core.Bool.{Bool, true, false, cond}
-use Prim.Native.Nat.{ℕ, _+_, _*_, _%_, _≤_}
-use native.Mathlib.Nat.{le-refl, mul-le-mul-right}
+use Prim.Native.Nat.{ℕ, _*_, _%_, _≤_}
+use native.Mathlib.Nat.{le-refl}
 use native.Mathlib.Omega.{arith}
 use lib.Bits.{bitAnd}
 use lib.Count.{ones}
 use lib.Dec.{eqb, lit≤}
-use lib.IntN.{ℤ, pos, natAbs, _*ℤ_}
+use lib.IntN.{ℤ, pos, _*ℤ_}
 use Rattle.complex.specs.declared.Complex.{Complex}
 use Rattle.complex.specs.Arithmetic.{_+j_, real, 𝟎, _⊗_}
-use Rattle.complex.proofs.Sizes.{Within, within-more, within-add, within-sub, within-mul}
+use Rattle.complex.specs.Fits.{Within, Both}
+use Rattle.complex.proofs.Sizes.{within-mul}
 use Rattle.complex.proofs.Ring.{real-⊗, real-one-plus-j}
-use Rattle.complex.proofs.Components.{Both, both-⊕, both-more}
+use Rattle.complex.proofs.Components.{both-⊕, both-⊗, both-more}
 use Rattle.codes.specs.declared.ModulatedCode.{ModulatedCode}
 use Rattle.codes.specs.declared.Allocated.{Allocated}
 use Rattle.codes.specs.SyncCodes.{a, a-signs, b, b-signs, repeated, Cp, C, z, hadamard, is-sync-code}
 use Rattle.codes.specs.Burst.{secondaries}
+use Rattle.codes.proofs.Allocations.{Known, AllKnown}
 use Rattle.codes.proofs.Rows.{a-test, a-signs-test, b-test, b-signs-test, row-within, minus-if-within}
-use Rattle.demands.proofs.BurstCorrelations.{Modulated, Sent, chips}
+use Rattle.demands.proofs.BurstCorrelations.{chips}
 
 -- ---- the codes
 one-plus-j-within : {x : ℤ} → Within 1 x → Both 1 (real x ⊗ (pos 1 +j pos 1))
@@ -36,31 +38,19 @@ secondary-within i n = go (is-sync-code i)
     go true = one-plus-j-within (within-mul (within-mul (row-within b-signs b-signs-test _) (row-within b b-test _)) (minus-if-within (eqb (ones (bitAnd (16 * i) n) % 2) 1)))
     go false = record { re = record { size = lit≤ tt }; im = record { size = lit≤ tt } }
 
--- ---- their products with a unit and with a gain
-whole : (x : ℤ) → Within (natAbs x) x
-whole x = record { size = le-refl (natAbs x) }
-
-module _ {k : ℕ} {x : Complex} (h : Both k x) where
-  turned-within : (u : Complex) → natAbs (u .re) + natAbs (u .im) ≤ 1 → Both k (u ⊗ x)
-  unfolding _⊗_
-  turned-within u g =
-      record {
-        re = within-more (within-sub (within-mul (whole (u .re)) (h .re)) (within-mul (whole (u .im)) (h .im))) k e;
-        im = within-more (within-add (within-mul (whole (u .re)) (h .im)) (within-mul (whole (u .im)) (h .re))) k e;
-      }
-    where
-      e : natAbs (u .re) * k + natAbs (u .im) * k ≤ k
-      e = omega (arith, mul-le-mul-right k g)
-
-  gained-within : (g : ℕ) → Both (g * k) (real (pos g) ⊗ x)
-  gained-within g =
-      subst (Both (g * k)) (sym (real-⊗ (pos g) x)) (record { re = within-mul (whole (pos g)) (h .re); im = within-mul (whole (pos g)) (h .im) })
+gained-within : {k : ℕ} {x : Complex} → Both k x → (g : ℕ) → Both (g * k) (real (pos g) ⊗ x)
+gained-within {k} {x} h g =
+    subst (Both (g * k)) (sym (real-⊗ (pos g) x)) (record { re = within-mul gain (h .re); im = within-mul gain (h .im) })
+  where
+    gain : Within g (pos g)
+    gain = record { size = le-refl g }
 
 -- ---- the burst
-pub chips-within : (gP gS : ℕ) (s : Allocated) → Sent s → gP ≤ 4095 → gS ≤ 4095 → (n : ℕ) → Both 16380 (chips gP gS s n)
+pub chips-within : (gP gS : ℕ) (s : Allocated) → AllKnown s → gP ≤ 4095 → gS ≤ 4095 → (n : ℕ) → Both 28665 (chips gP gS s n)
 unfolding chips secondaries
 chips-within gP gS s c p q n =
-    both-more (both-⊕ (gained-within (primary-within n) gP) (gained-within (both-⊕ (both-⊕ (of (c .first)) (of (c .second))) (of (c .marker))) gS)) 16380 (omega arith)
+    both-more (both-⊕ (gained-within (primary-within n) gP) (gained-within (both-⊕ (both-⊕ (sent-within (c .first)) (sent-within (c .second))) (sent-within (c .marker))) gS)) 28665 (omega arith)
   where
-    of : {m : ModulatedCode} → Modulated m → Both 1 (m .unit ⊗ C (m .code) n)
-    of {m} h = turned-within (secondary-within (m .code) n) (m .unit) (h .unit)
+    -- a unit with components of at most 1 doubles a size at most
+    sent-within : {m : ModulatedCode} → Known m → Both 2 (m .unit ⊗ C (m .code) n)
+    sent-within {m} h = both-⊗ (h .small) (secondary-within (m .code) n)

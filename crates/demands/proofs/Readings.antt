@@ -1,13 +1,13 @@
--- Readings of a sum of chips add up, and a reading's size is at most Q times that of the chips. Assumes nothing.
+-- Readings of a sum of chips add up, and a reading's size is at most Q times that of its chips. Assumes nothing.
 use mathlib.Core.Path.{_≡_, subst, _∙_}
-use Prim.Native.Nat.{ℕ, _+_, _*_, _%_}
+use Prim.Native.Nat.{ℕ, _+_, _*_, _%_, _<_}
 use native.Mathlib.Nat.{add-comm}
 use Rattle.complex.specs.declared.Complex.{Complex}
 use Rattle.complex.specs.Arithmetic.{real, _⊕_, _⊗_, conj, j^}
-use Rattle.complex.proofs.Sizes.{Within}
+use Rattle.complex.specs.Fits.{Within, Both}
 use Rattle.complex.proofs.Ring.{products, ⊕-⊗, ⊗-comm, conj-⊗, conj-conj}
 use Rattle.complex.proofs.Sums.{Σ-cong, Σ-⊕}
-use Rattle.complex.proofs.Components.{Both, both-conj, both-j^, both-sign, both-Σ}
+use Rattle.complex.proofs.Components.{both-conj, both-j^, both-sign, both-Σ}
 use Rattle.codes.specs.Tree.{element}
 use Rattle.codes.specs.Scrambling.{v, scrambling}
 use Rattle.codes.proofs.Rows.{v-within}
@@ -32,9 +32,9 @@ scrambled-within {m} {x} p i h =
     turn : (u w x : Complex) → conj (u ⊗ (w ⊗ conj x)) ≡ x ⊗ conj (u ⊗ w)
     turn u w x = simp (conj-⊗, conj-conj, products)
 
-pub reading-within : (p Q k m : ℕ) (x : ℕ → Complex) → ((q : ℕ) → Both m (x q)) → (n : ℕ) → Both (Q * m) (reading p Q k x n)
+pub reading-within : (p Q k m : ℕ) (x : ℕ → Complex) (n : ℕ) → ((i : ℕ) → i < Q → Both m (x (n * Q + i))) → Both (Q * m) (reading p Q k x n)
 unfolding reading
-reading-within p Q k m x h n =
+reading-within p Q k m x n h =
     both-Σ m Q _
     (λ i l. subst (Both m) (⊗-comm (real (element Q k i)) (x (n * Q + i) ⊗ conj (scrambling p (1 + (n * Q + i) % 16))))
-    (both-sign (scrambled-within p ((n * Q + i) % 16) (h (n * Q + i))) (element-within Q k i)))
+    (both-sign (scrambled-within p ((n * Q + i) % 16) (h i l)) (element-within Q k i)))

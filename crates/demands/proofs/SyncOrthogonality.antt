@@ -1,130 +1,103 @@
 -- The sync codes are orthogonal: over the 256 chips a code correlates with itself to 512, and with any other of them to 0. Assumes nothing.
-use mathlib.Core.Path.{_≡_, refl, sym, _∙_}
-use mathlib.Core.Bool.{Bool, true, false, cond}
-use Prim.Native.Nat.{ℕ, _+_, _*_, _%_, _<_}
-use lib.Bits.{bitAnd}
+use mathlib.Core.Path.{_≡_, refl, sym, ap, _∙_}
+use mathlib.Core.Bool.{Bool, true, cond}
+use Prim.Native.Nat.{ℕ, zero, suc, _+_, _*_, _<_}
+use native.Mathlib.Omega.{arith}
 use lib.Count.{ones, onesIn}
-use lib.Dec.{T, eqb}
+use lib.Dec.{T, eqb, lit<}
 use lib.IntN.{ℤ, pos, _*ℤ_}
 use Rattle.complex.specs.declared.Complex.{Complex}
-use Rattle.complex.specs.Arithmetic.{_+j_, real, 𝟎, _⊗_, conj, Σ<, Σℤ<}
-use Rattle.complex.proofs.Integers.{ring}
-use Rattle.complex.proofs.Ring.{products, 𝟎-⊗, conj-⊗, conj-real, real-*ℤ}
+use Rattle.complex.specs.Arithmetic.{_+j_, real, _⊗_, conj, Σ<, Σℤ<}
+use Rattle.complex.proofs.Integers.{*ℤ-swap}
+use Rattle.complex.proofs.Ring.{products, ⊗-swap, conj-⊗, conj-real, real-*ℤ}
 use Rattle.complex.proofs.Sums.{Σ-cong, Σ-blocks, ⊗-Σ, real-Σ}
-use Rattle.codes.specs.Signs.{_at_, minus-if}
+use Rattle.codes.specs.Signs.{_at_}
 use Rattle.codes.specs.Range.{each}
-use Rattle.codes.specs.SyncCodes.{a, a-signs, b, b-signs, Cp, C, is-sync-code}
+use Rattle.codes.specs.SyncCodes.{a, a-signs, b, b-signs, Cp, C, hadamard, hadamard-part, is-sync-code}
 use Rattle.codes.proofs.Tests.{each-at, same, same→eq}
-use Rattle.codes.proofs.Parts.{Cp-parts, C-parts, hadamard-part-is, sync-code-below}
+use Rattle.codes.proofs.Parts.{Cp-parts, C-parts, sync-code-below}
 use Rattle.analyser.specs.SyncReading.{correlation}
 
--- ---- two codes made of sixteen parts: the sign of the part times a sequence of 16 signs, times 1+j
-record Made (s p : ℕ → ℤ) (x : ℕ → Complex) : Type 0 where
-  of : (m n : ℕ) → m < 16 → n < 16 → x (m * 16 + n) ≡ real (s m *ℤ p n) ⊗ (pos 1 +j pos 1)
+-- ---- the thirteen codes by one number: 0 is Cp, 1 + i is Ci
+abbrev pub sync-code : ℕ → ℕ → Complex
+sync-code zero = Cp
+sync-code (suc i) = C i
 
+abbrev pub has-code : ℕ → Bool
+has-code zero = true
+has-code (suc i) = is-sync-code i
+
+has-code-below : (x : ℕ) → T (has-code x) → x < 17
+has-code-below zero t = lit< tt
+has-code-below (suc i) t = let h : i < 16 = sync-code-below i t in omega arith
+
+-- a code is sixteen parts of sixteen chips: the sign of the part times that of the chip, times 1+j
+part-sign : ℕ → ℕ → ℤ
+part-sign zero m = a-signs at m
+part-sign (suc i) m = b-signs at m *ℤ hadamard-part i m
+
+chip-sign : ℕ → ℕ → ℤ
+chip-sign zero n = a at n
+chip-sign (suc i) n = b at n
+
+by-signs : (x : ℕ) → T (has-code x) → (m n : ℕ) → n < 16 → sync-code x (m * 16 + n) ≡ real (part-sign x m *ℤ chip-sign x n) ⊗ (pos 1 +j pos 1)
+unfolding part-sign chip-sign
+by-signs zero t m n l = Cp-parts m n l
+by-signs (suc i) t m n l = C-parts m n l i t ∙ ap (λ (s : ℤ). real s ⊗ (pos 1 +j pos 1)) (*ℤ-swap (b-signs at m) (b at n) (hadamard-part i m))
+
+-- ---- a correlation of two codes is made of two sums of sixteen
 inner : (ℕ → ℤ) → (ℕ → ℤ) → ℤ
 inner p q = Σℤ< 16 (λ n. p n *ℤ q n)
 
-squared : (pos 1 +j pos 1) ⊗ conj (pos 1 +j pos 1) ≡ real (pos 2)
+one-plus-j-squared : (pos 1 +j pos 1) ⊗ conj (pos 1 +j pos 1) ≡ real (pos 2)
 unfolding _⊗_ conj real
-squared = refl
+one-plus-j-squared = refl
 
-arrange : (s p t q u v : Complex) → ((s ⊗ p) ⊗ u) ⊗ ((t ⊗ q) ⊗ v) ≡ ((u ⊗ v) ⊗ (s ⊗ t)) ⊗ (p ⊗ q)
-arrange s p t q u v = simp products
+signs-last : (s p t q u v : Complex) → ((s ⊗ p) ⊗ u) ⊗ ((t ⊗ q) ⊗ v) ≡ ((u ⊗ v) ⊗ (s ⊗ t)) ⊗ (p ⊗ q)
+signs-last s p t q u v = simp products
 
-last-first : (k s p : Complex) → (k ⊗ s) ⊗ p ≡ (k ⊗ p) ⊗ s
-last-first k s p = simp products
+module _ (x y : ℕ) (t : T (has-code x)) (u : T (has-code y)) where
+  abbrev part-sum : ℤ
+  part-sum = inner (part-sign x) (part-sign y)
 
-module _ {x y : ℕ → Complex} {s p t q : ℕ → ℤ} (h : Made s p x) (g : Made t q y) where
-  chip : (m n : ℕ) → m < 16 → n < 16 → x (m * 16 + n) ⊗ conj (y (m * 16 + n)) ≡ (real (pos 2) ⊗ real (s m *ℤ t m)) ⊗ real (p n *ℤ q n)
-  chip m n k l =
-      rw (h .of m n k l, g .of m n k l, conj-⊗, conj-real, real-*ℤ (s m) (p n), real-*ℤ (t m) (q n), arrange, squared)
-      (rw (← (real-*ℤ (s m) (t m)), ← (real-*ℤ (p n) (q n))))
+  abbrev chip-sum : ℤ
+  chip-sum = inner (chip-sign x) (chip-sign y)
 
-  part : (m : ℕ) → m < 16 → Σ< 16 (λ n. x (m * 16 + n) ⊗ conj (y (m * 16 + n))) ≡ (real (pos 2) ⊗ real (inner p q)) ⊗ real (s m *ℤ t m)
+  over-chip : (m n : ℕ) → n < 16
+      → sync-code x (m * 16 + n) ⊗ conj (sync-code y (m * 16 + n)) ≡ (real (pos 2) ⊗ real (part-sign x m *ℤ part-sign y m)) ⊗ real (chip-sign x n *ℤ chip-sign y n)
+  over-chip m n l =
+      rw (by-signs x t m n l, by-signs y u m n l, conj-⊗, conj-real, real-*ℤ (part-sign x m) (chip-sign x n), real-*ℤ (part-sign y m) (chip-sign y n), signs-last, one-plus-j-squared)
+      (rw (← (real-*ℤ (part-sign x m) (part-sign y m)), ← (real-*ℤ (chip-sign x n) (chip-sign y n))))
+
+  over-part : (m : ℕ) → Σ< 16 (λ n. sync-code x (m * 16 + n) ⊗ conj (sync-code y (m * 16 + n))) ≡ (real (pos 2) ⊗ real chip-sum) ⊗ real (part-sign x m *ℤ part-sign y m)
   unfolding inner
-  part m k =
-      Σ-cong 16 _ (λ n. (real (pos 2) ⊗ real (s m *ℤ t m)) ⊗ real (p n *ℤ q n)) (λ n l. chip m n k l)
-      ∙ sym (⊗-Σ 16 (λ n. real (p n *ℤ q n)) (real (pos 2) ⊗ real (s m *ℤ t m)))
-      ∙ rw (← (real-Σ 16 (λ n. p n *ℤ q n))) (last-first _ _ _)
+  over-part m =
+      Σ-cong 16 _ (λ n. (real (pos 2) ⊗ real (part-sign x m *ℤ part-sign y m)) ⊗ real (chip-sign x n *ℤ chip-sign y n)) (λ n l. over-chip m n l)
+      ∙ sym (⊗-Σ 16 (λ n. real (chip-sign x n *ℤ chip-sign y n)) (real (pos 2) ⊗ real (part-sign x m *ℤ part-sign y m)))
+      ∙ rw (← (real-Σ 16 (λ n. chip-sign x n *ℤ chip-sign y n))) (⊗-swap _ _ _)
 
-  by-parts : correlation x y ≡ (real (pos 2) ⊗ real (inner p q)) ⊗ real (inner s t)
+  by-sums : correlation (sync-code x) (sync-code y) ≡ real ((pos 2 *ℤ chip-sum) *ℤ part-sum)
   unfolding correlation inner
-  by-parts =
-      Σ-blocks 16 16 (λ n. x n ⊗ conj (y n))
-      ∙ Σ-cong 16 _ (λ m. (real (pos 2) ⊗ real (inner p q)) ⊗ real (s m *ℤ t m)) (λ m k. part m k)
-      ∙ sym (⊗-Σ 16 (λ m. real (s m *ℤ t m)) (real (pos 2) ⊗ real (inner p q)))
-      ∙ rw (← (real-Σ 16 (λ m. s m *ℤ t m)))
+  by-sums =
+      Σ-blocks 16 16 (λ n. sync-code x n ⊗ conj (sync-code y n))
+      ∙ Σ-cong 16 _ (λ m. (real (pos 2) ⊗ real chip-sum) ⊗ real (part-sign x m *ℤ part-sign y m)) (λ m k. over-part m)
+      ∙ sym (⊗-Σ 16 (λ m. real (part-sign x m *ℤ part-sign y m)) (real (pos 2) ⊗ real chip-sum))
+      ∙ rw (← (real-Σ 16 (λ m. part-sign x m *ℤ part-sign y m)), ← (real-*ℤ (pos 2) chip-sum), ← (real-*ℤ (pos 2 *ℤ chip-sum) part-sum))
 
--- ---- the codes, so made
-part-sign : ℕ → ℕ → ℤ
-part-sign i m = b-signs at m *ℤ minus-if (eqb (ones (bitAnd i m) % 2) 1)
+-- ---- the one test, and the one law
+-- what two codes correlate to
+abbrev pub overlap : ℕ → ℕ → ℤ
+overlap x y = cond (eqb x y) (pos 512) (pos 0)
 
-primary : Made (λ m. a-signs at m) (λ n. a at n) Cp
-primary = record { of = λ m n k l. Cp-parts m n l }
+overlaps : ℕ → ℕ → Bool
+overlaps x y = same ((pos 2 *ℤ inner (chip-sign x) (chip-sign y)) *ℤ inner (part-sign x) (part-sign y)) (overlap x y)
 
-secondary : (i : ℕ) → T (is-sync-code i) → Made (part-sign i) (λ n. b at n) (C i)
-unfolding part-sign
-secondary i t = record { of = λ m n k l. C-parts m n l i t ∙ rw (hadamard-part-is i m (sync-code-below i t) k, last-of (b-signs at m) (b at n)) }
-  where
-    last-of : (u v w : ℤ) → (u *ℤ v) *ℤ w ≡ (u *ℤ w) *ℤ v
-    last-of u v w = simp ring
+overlaps-test : T (each 17 (λ x. each 17 (overlaps x)))
+unfolding each overlaps same inner part-sign chip-sign Σℤ< _at_ hadamard-part hadamard ones onesIn
+overlaps-test = tt
 
--- ---- the sums over sixteen signs
-apart : ℕ → ℕ → Bool
-apart i k = same (inner (part-sign i) (part-sign k)) (cond (eqb i k) (pos 16) (pos 0))
-
-apart-test : T (each 16 (λ i. each 16 (apart i)))
-unfolding each apart same inner part-sign Σℤ< _at_ ones onesIn
-apart-test = tt
-
-parts-apart : (i k : ℕ) → i < 16 → k < 16 → inner (part-sign i) (part-sign k) ≡ cond (eqb i k) (pos 16) (pos 0)
-unfolding apart
-parts-apart i k h g = same→eq _ _ (each-at 16 (apart i) (each-at 16 (λ i. each 16 (apart i)) apart-test i h) k g)
-
-a-a : inner (λ n. a at n) (λ n. a at n) ≡ pos 16
-unfolding inner Σℤ< _at_
-a-a = refl
-
-a-signs-a-signs : inner (λ n. a-signs at n) (λ n. a-signs at n) ≡ pos 16
-unfolding inner Σℤ< _at_
-a-signs-a-signs = refl
-
-a-b : inner (λ n. a at n) (λ n. b at n) ≡ pos 0
-unfolding inner Σℤ< _at_
-a-b = refl
-
-b-a : inner (λ n. b at n) (λ n. a at n) ≡ pos 0
-unfolding inner Σℤ< _at_
-b-a = refl
-
-b-b : inner (λ n. b at n) (λ n. b at n) ≡ pos 16
-unfolding inner Σℤ< _at_
-b-b = refl
-
--- ---- the correlations
-abbrev pub weight : ℕ → ℕ → ℤ
-weight i k = cond (eqb i k) (pos 512) (pos 0)
-
-none : real (pos 2) ⊗ real (pos 0) ≡ 𝟎
-unfolding real _⊗_ 𝟎
-none = refl
-
-all-or-none : (c : Bool) → (real (pos 2) ⊗ real (pos 16)) ⊗ real (cond c (pos 16) (pos 0)) ≡ real (cond c (pos 512) (pos 0))
-unfolding real _⊗_
-all-or-none true = refl
-all-or-none false = refl
-
-pub primary-primary : correlation Cp Cp ≡ real (pos 512)
-primary-primary = by-parts primary primary ∙ rw (a-a, a-signs-a-signs) (all-or-none true)
-
-module _ (i : ℕ) (t : T (is-sync-code i)) where
-  pub primary-secondary : correlation Cp (C i) ≡ 𝟎
-  primary-secondary = by-parts primary (secondary i t) ∙ rw (a-b, none) (𝟎-⊗ _)
-
-  pub secondary-primary : correlation (C i) Cp ≡ 𝟎
-  secondary-primary = by-parts (secondary i t) primary ∙ rw (b-a, none) (𝟎-⊗ _)
-
-  pub secondary-secondary : (k : ℕ) → T (is-sync-code k) → correlation (C i) (C k) ≡ real (weight i k)
-  secondary-secondary k u =
-      by-parts (secondary i t) (secondary k u) ∙ rw (b-b, parts-apart i k (sync-code-below i t) (sync-code-below k u)) (all-or-none (eqb i k))
+pub orthogonal : (x y : ℕ) → T (has-code x) → T (has-code y) → correlation (sync-code x) (sync-code y) ≡ real (overlap x y)
+unfolding overlaps
+orthogonal x y t u =
+    by-sums x y t u
+    ∙ ap real (same→eq _ (overlap x y) (each-at 17 (overlaps x) (each-at 17 (λ x. each 17 (overlaps x)) overlaps-test x (has-code-below x t)) y (has-code-below y u)))

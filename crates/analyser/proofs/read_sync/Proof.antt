@@ -13,7 +13,7 @@ use Rattle.codes.specs.Refusals.{refused, gives, Refusal, _if_, number}
 use Rattle.codes.proofs.Refused.{numbered, Passed, passed, accepted, not-accepted, refused-early, passed-early}
 use Rattle.analyser.specs.Components.{outside}
 use Rattle.analyser.specs.SyncReading.{candidate, candidates, sync-refusals, winner}
-use Rattle.analyser.proofs.Choosing.{leads-is, leads-none}
+use Rattle.analyser.proofs.Leading.{leads-is, leads-none}
 use Rattle.analyser.proofs.Ranges.{neither, not-outside}
 use Rattle.analyser.proofs.read_sync.Statement.{statement}
 use Rattle.analyser.proofs.read_sync.Tie as tie

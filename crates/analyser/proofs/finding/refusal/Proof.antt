@@ -43,14 +43,14 @@ returns-3 c =
       sym (c .before .either-outside .ensures) ∙ c .if3 .taken,
     )
 
-sub-is-one-shorter : tie.Need-sub-is-one-shorter
-sub-is-one-shorter c =
+sub-is-either-shorter : tie.Need-sub-is-either-shorter
+sub-is-either-shorter c =
     let d = c .before .before in
     let n = length (d .before .before .before .args .re .now) in
     omega (arith, ltb-false n 256 (neither (ltb n 256) (ltb 5120 n) (recording d) .0))
 
-is-one-shorter-requires : tie.Need-is-one-shorter-requires
-is-one-shorter-requires c κs = search needs
+is-either-shorter-requires : tie.Need-is-either-shorter-requires
+is-either-shorter-requires c κs = search needs
 
 returns-4 : tie.Need-returns-4
 returns-4 c =
@@ -61,7 +61,7 @@ returns-4 c =
       eq-eqb (length (s .re .now)) (length (s .im .now)) (d .before .before .if1 .left),
       recording d,
       components e,
-      sym (c .before .is-one-shorter .ensures) ∙ c .if4 .taken,
+      sym (c .before .is-either-shorter .ensures) ∙ c .if4 .taken,
     )
 
 returns-5 : tie.Need-returns-5
@@ -73,7 +73,7 @@ returns-5 c =
       eq-eqb (length (s .re .now)) (length (s .im .now)) (d .before .before .if1 .left),
       recording d,
       components e,
-      sym (c .before .is-one-shorter .ensures) ∙ c .if4 .left,
+      sym (c .before .is-either-shorter .ensures) ∙ c .if4 .left,
     )
 
 pub refusal-spec : {M : Type 1} → statement M
@@ -85,7 +85,7 @@ refusal-spec =
     returns-2
     either-outside-requires
     returns-3
-    sub-is-one-shorter
-    is-one-shorter-requires
+    sub-is-either-shorter
+    is-either-shorter-requires
     returns-4
     returns-5)

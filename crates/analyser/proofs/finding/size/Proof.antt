@@ -6,7 +6,7 @@ use mir.Syntax.{w32, w64}
 use mir.Val.{SFits, toZ, ofZ}
 use mir.Facts.{toZ-ofZ}
 use Rattle.complex.specs.Arithmetic.{_+j_, _⊗_, conj, squared-size}
-use Rattle.complex.proofs.Components.{Both}
+use Rattle.complex.specs.Fits.{Both}
 use Rattle.codes.specs.SyncCodes.{a-signs}
 use Rattle.codes.specs.Held.{packed}
 use Rattle.analyser.specs.Held.{signed-sum, size-at}

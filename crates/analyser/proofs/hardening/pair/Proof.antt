@@ -15,17 +15,17 @@ wide-requires c κs = search needs
 wide-requires-2 : tie.Need-wide-requires-2
 wide-requires-2 c κs = search needs
 
-or-later-requires : tie.Need-or-later-requires
-or-later-requires c κs = search needs
-
 minus-requires : tie.Need-minus-requires
 minus-requires c κs = search needs
 
-or-later-requires-2 : tie.Need-or-later-requires-2
-or-later-requires-2 c κs = search needs
-
 minus-requires-2 : tie.Need-minus-requires-2
 minus-requires-2 c κs = search needs
+
+or-later-requires : tie.Need-or-later-requires
+or-later-requires c κs = search needs
+
+or-later-requires-2 : tie.Need-or-later-requires-2
+or-later-requires-2 c κs = search needs
 
 or-later-requires-3 : tie.Need-or-later-requires-3
 or-later-requires-3 c κs = search needs
@@ -39,28 +39,21 @@ minus-is f g e = toZ-ofZ f ∙ e ∙ ap negℤ (toZ-ofZ g)
 
 returns : tie.Need-returns
 returns c =
-    let c₂ = c .before .before .before in
-    let c₁ = c₂ .before .before .before in
-    let w = c₁ .before .before .before in
+    let m₂ = c .before .before .before in
+    let m = m₂ .before .before in
+    let w₂ = m .before .before in
+    let w = w₂ .before .before in
     let y = w .before .before .args .y in
     let re : SFits w32 (y .re) = search needs in
     let im : SFits w32 (y .im) = search needs in
     let f₀ : SFits w64 (w .wide .result) = search needs in
-    let f₁ : SFits w64 (c₁ .before .wide2 .result) = search needs in
-    let f₂ : SFits w64 (c₂ .before .minus .result) = search needs in
-    let f₃ : SFits w64 (c .before .minus2 .result) = search needs in
-    pair-is y (wide-is f₀ im (w .wide .ensures)) (wide-is f₁ re (c₁ .before .wide2 .ensures)) (minus-is f₂ re (c₂ .before .minus .ensures)) (minus-is f₃ im (c .before .minus2 .ensures))
-    (c₁ .or-later .ensures) (c₂ .or-later2 .ensures) (c .or-later3 .ensures)
+    let f₁ : SFits w64 (w₂ .wide2 .result) = search needs in
+    let f₂ : SFits w64 (m .minus .result) = search needs in
+    let f₃ : SFits w64 (m₂ .minus2 .result) = search needs in
+    pair-is y (wide-is f₀ im (w .wide .ensures)) (wide-is f₁ re (w₂ .wide2 .ensures)) (minus-is f₂ re (m .minus .ensures)) (minus-is f₃ im (m₂ .minus2 .ensures))
+    (c .before .before .or-later .ensures) (c .before .or-later2 .ensures) (c .or-later3 .ensures)
 
 pub pair-spec : {M : Type 1} → statement M
 pair-spec =
     tie.close
-    (tie.spec
-    wide-requires
-    wide-requires-2
-    or-later-requires
-    minus-requires
-    or-later-requires-2
-    minus-requires-2
-    or-later-requires-3
-    returns)
+    (tie.spec wide-requires wide-requires-2 minus-requires minus-requires-2 or-later-requires or-later-requires-2 or-later-requires-3 returns)

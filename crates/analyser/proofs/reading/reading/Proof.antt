@@ -8,9 +8,10 @@ use mir.Val.{toZ, ofZ}
 use mir.Facts.{toZ-ofZ}
 use Rattle.complex.specs.Arithmetic.{𝟎, _⊕_, _⊗_, Σ<}
 use Rattle.complex.specs.Buffers.{value}
-use Rattle.complex.proofs.Components.{Both, both-⊕, both-⊗, both-fits, product-fits}
+use Rattle.complex.specs.Fits.{Within, Both}
+use Rattle.complex.proofs.Components.{both-⊕, both-⊗, both-fits, product-fits}
 use Rattle.complex.proofs.Ring.{by-components}
-use Rattle.complex.proofs.Sizes.{Within, fits-within}
+use Rattle.complex.proofs.Sizes.{fits-within}
 use Rattle.complex.proofs.Sums.{Σ-more}
 use Rattle.analyser.specs.Held.{weighed}
 use Rattle.analyser.proofs.Readings.{weighed-both}

@@ -82,11 +82,11 @@ returns-6 c =
       sym (c .before .either-outside .ensures) ∙ c .if6 .taken,
     )
 
-div-is-one-shorter : tie.Need-div-is-one-shorter
-div-is-one-shorter c = search needs
+div-is-either-shorter : tie.Need-div-is-either-shorter
+div-is-either-shorter c = search needs
 
-is-one-shorter-requires : tie.Need-is-one-shorter-requires
-is-one-shorter-requires c κs = search needs
+is-either-shorter-requires : tie.Need-is-either-shorter-requires
+is-either-shorter-requires c κs = search needs
 
 returns-7 : tie.Need-returns-7
 returns-7 c =
@@ -100,7 +100,7 @@ returns-7 c =
       eq-eqb (length (s .re .now)) (length (s .im .now)) (e .if4 .left),
       field (c .before .before .before .before),
       components (c .before .before),
-      sym (c .before .is-one-shorter .ensures) ∙ c .if7 .taken,
+      sym (c .before .is-either-shorter .ensures) ∙ c .if7 .taken,
     )
 
 returns-8 : tie.Need-returns-8
@@ -115,7 +115,7 @@ returns-8 c =
       eq-eqb (length (s .re .now)) (length (s .im .now)) (e .if4 .left),
       field (c .before .before .before .before),
       components (c .before .before),
-      sym (c .before .is-one-shorter .ensures) ∙ c .if7 .left,
+      sym (c .before .is-either-shorter .ensures) ∙ c .if7 .left,
     )
 
 pub refusal-spec : {M : Type 1} → statement M
@@ -131,7 +131,7 @@ refusal-spec =
     returns-5
     either-outside-requires
     returns-6
-    div-is-one-shorter
-    is-one-shorter-requires
+    div-is-either-shorter
+    is-either-shorter-requires
     returns-7
     returns-8)

@@ -5,8 +5,8 @@ use mir.Syntax.{w32}
 use mir.Val.{SFits, toZ, ofZ}
 use mir.Facts.{toZ-ofZ}
 use Rattle.complex.specs.Arithmetic.{real, _⊗_, conj}
-use Rattle.complex.proofs.Components.{Both, both-conj, both-fits, product-fits}
-use Rattle.complex.proofs.Sizes.{Within}
+use Rattle.complex.specs.Fits.{Within, Both}
+use Rattle.complex.proofs.Components.{both-conj, both-fits, product-fits}
 use Rattle.codes.specs.Tree.{element}
 use Rattle.codes.proofs.Leaves.{element-within}
 use Rattle.analyser.specs.Held.{weight}

@@ -4,7 +4,8 @@ use lib.Signed.{natAbs-le}
 use mir.Syntax.{w64}
 use mir.Val.{SFits}
 use mir.Facts.{toZ-ofZ, sfits-widen}
-use Rattle.complex.proofs.Sizes.{Within, within-neg, fits-within}
+use Rattle.complex.specs.Fits.{Within}
+use Rattle.complex.proofs.Sizes.{within-neg, fits-within}
 use Rattle.complex.proofs.Machine.{neg-asks, neg-gives}
 use Rattle.analyser.proofs.sums.minus.Statement.{statement}
 use Rattle.analyser.proofs.sums.minus.Tie as tie

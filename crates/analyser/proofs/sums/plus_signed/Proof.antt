@@ -3,7 +3,8 @@ use lib.IntN.{_+ℤ_, _*ℤ_}
 use mir.Syntax.{w32}
 use mir.Val.{SFits}
 use mir.Facts.{toZ-ofZ}
-use Rattle.complex.proofs.Sizes.{Within, within-add, within-mul, fits-within}
+use Rattle.complex.specs.Fits.{Within}
+use Rattle.complex.proofs.Sizes.{within-add, within-mul, fits-within}
 use Rattle.complex.proofs.Machine.{mul-asks, mul-gives}
 use Rattle.analyser.proofs.sums.plus_signed.Statement.{statement}
 use Rattle.analyser.proofs.sums.plus_signed.Tie as tie

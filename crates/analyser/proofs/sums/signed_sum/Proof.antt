@@ -10,7 +10,8 @@ use mir.Syntax.{w32}
 use mir.Val.{SFits, toZ, ofZ}
 use mir.Facts.{toZ-ofZ}
 use Rattle.complex.specs.Arithmetic.{Σℤ<}
-use Rattle.complex.proofs.Sizes.{Within, within-more, within-mul}
+use Rattle.complex.specs.Fits.{Within}
+use Rattle.complex.proofs.Sizes.{within-more, within-mul}
 use Rattle.complex.proofs.Components.{within-Σℤ}
 use Rattle.complex.proofs.Sums.{Σℤ-more}
 use Rattle.codes.specs.Held.{sign-bit}

@@ -5,11 +5,13 @@ use borrow.Author.Needs.{needs}
 use lib.IntN.{ℤ}
 use lib.Dec.{lit≤}
 use Rattle.complex.specs.Buffers.{listed}
-use Rattle.complex.proofs.Components.{Both}
+use Rattle.complex.specs.Fits.{Both}
+use Rattle.codes.specs.SyncCodes.{b}
+use Rattle.codes.specs.Held.{packed}
 use Rattle.analyser.specs.SyncReading.{candidates}
-use Rattle.analyser.specs.Held.{Bound, Leads, product}
+use Rattle.analyser.specs.Held.{Bound, Leads, part-sums, product}
 use Rattle.analyser.proofs.Bounds.{bound-listed, bound-more}
-use Rattle.analyser.proofs.Shares.{P-within, product-within, scores-are}
+use Rattle.analyser.proofs.Shares.{P-within, parts-bound, product-within, scores-are}
 use Rattle.analyser.proofs.sync_reading.lead.Statement.{statement}
 use Rattle.analyser.proofs.sync_reading.lead.Tie as tie
 
@@ -30,7 +32,7 @@ lead-of-all-requires : tie.Need-lead-of-all-requires
 lead-of-all-requires c κs =
     let d = c .before .before .before .before in
     let p = start (d .before) .pre in
-    let within = product-within (p .2) (p .3) (p-within (d .before)) in (
+    let within = product-within (parts-bound (p .2) (packed b)) (parts-bound (p .3) (packed b)) (p-within (d .before)) in (
       subst (Bound 5300000000000000) (sym (d .products .ensures .0)) (bound-more (bound-listed 5242880000000000 16 _ (λ i. within i .re)) 5300000000000000 (lit≤ tt)),
       subst (Bound 5300000000000000) (sym (d .products .ensures .1)) (bound-more (bound-listed 5242880000000000 16 _ (λ i. within i .im)) 5300000000000000 (lit≤ tt)),
     )
@@ -40,8 +42,8 @@ returns c =
     let d = c .before .before .before .before .before in
     let s = start (d .before) .args in
     let p = d .before .primary .ensures in
-    let x = d .products .ensures .0 ∙ (λ j. listed 16 (λ i. product (s .re .now) (s .im .now) (p j) i .re)) in
-    let y = d .products .ensures .1 ∙ (λ j. listed 16 (λ i. product (s .re .now) (s .im .now) (p j) i .im)) in
+    let x = d .products .ensures .0 ∙ (λ j. listed 16 (λ i. product (part-sums (s .re .now) (packed b)) (part-sums (s .im .now) (packed b)) (p j) i .re)) in
+    let y = d .products .ensures .1 ∙ (λ j. listed 16 (λ i. product (part-sums (s .re .now) (packed b)) (part-sums (s .im .now) (packed b)) (p j) i .im)) in
     subst (λ (f : ℕ → ℤ). Leads f (candidates (s .case)) (c .lead-of-all .result))
     (λ j n. scores-are (s .re .now) (s .im .now) (d .products .result .re) (d .products .result .im) x y (s .case) n j) (c .lead-of-all .ensures)
 

@@ -10,7 +10,7 @@ use mir.Val.{SFits}
 use mir.Facts.{toZ-ofZ}
 use Rattle.complex.specs.Buffers.{value}
 use Rattle.analyser.specs.SyncReading.{candidate, candidates, sent}
-use Rattle.analyser.proofs.Choosing.{leads-one, leads-more}
+use Rattle.analyser.proofs.Leading.{leads-one, leads-more}
 use Rattle.analyser.specs.Held.{Leads, shares-of}
 use Rattle.analyser.proofs.sync_reading.lead_of_all.Statement.{statement}
 use Rattle.analyser.proofs.sync_reading.lead_of_all.Tie as tie

@@ -8,8 +8,8 @@ use mir.Val.{SFits, toZ, ofZ}
 use mir.Facts.{toZ-ofZ}
 use Rattle.complex.specs.declared.Complex.{Complex}
 use Rattle.complex.specs.Buffers.{value}
-use Rattle.complex.proofs.Sizes.{Within, within-add, fits-within}
-use Rattle.complex.proofs.Components.{Both}
+use Rattle.complex.specs.Fits.{Within, Both}
+use Rattle.complex.proofs.Sizes.{within-add, fits-within}
 use Rattle.codes.proofs.Allocations.{AllKnown, allocation-known}
 use Rattle.analyser.specs.SyncReading.{candidate, sent}
 use Rattle.analyser.specs.Held.{share-of, shares-of}

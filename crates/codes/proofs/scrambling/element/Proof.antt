@@ -9,8 +9,9 @@ use mir.Syntax.{w32}
 use mir.Val.{SFits, toZ, ofZ}
 use mir.Facts.{toZ-ofZ}
 use Rattle.complex.specs.Arithmetic.{real, j^, _⊗_}
+use Rattle.complex.specs.Fits.{Within}
 use Rattle.complex.proofs.Rotations.{j^-%}
-use Rattle.complex.proofs.Sizes.{Within, within-neg, fits-within}
+use Rattle.complex.proofs.Sizes.{within-neg, fits-within}
 use Rattle.codes.specs.Scrambling.{scrambling, v}
 use Rattle.codes.proofs.Rows.{v-within}
 use Rattle.codes.proofs.scrambling.element.Statement.{statement}

@@ -1,7 +1,6 @@
 -- `or_later` meets its contract. Assumes nothing.
-use mathlib.Core.Path.{ap, ap₂, sym, _∙_}
+use mathlib.Core.Path.{ap₂, sym, _∙_}
 use borrow.Author.Needs.{needs}
-use lib.IntN.{ℤ}
 use lib.Signed.{ltZ}
 use mir.Syntax.{w64}
 use mir.Val.{SFits}
@@ -11,16 +10,16 @@ use Rattle.analyser.proofs.largest.Largest.or_later.Tie as tie
 
 returns : tie.Need-returns
 returns c =
-    let s = c .before .before .before in
+    let s = c .before .before .before .before .before in
     let f : SFits w64 (s .args .self .value) = search needs in
-    let g : SFits w64 (s .args .value) = search needs in
-    rw (sym (ap₂ ltZ (toZ-ofZ f) (toZ-ofZ g)) ∙ c .if1 .taken) (ap (λ (v : ℤ). record { at = s .args .at; value = v }) (toZ-ofZ g))
+    let g : SFits w64 (s .args .later .value) = search needs in
+    rw (sym (ap₂ ltZ (toZ-ofZ f) (toZ-ofZ g)) ∙ c .if1 .taken)
 
 returns-2 : tie.Need-returns-2
 returns-2 c =
-    let s = c .before .before .before in
+    let s = c .before .before .before .before .before in
     let f : SFits w64 (s .args .self .value) = search needs in
-    let g : SFits w64 (s .args .value) = search needs in
+    let g : SFits w64 (s .args .later .value) = search needs in
     rw (sym (ap₂ ltZ (toZ-ofZ f) (toZ-ofZ g)) ∙ c .if1 .left)
 
 pub or-later-spec : {M : Type 1} → statement M
