@@ -1,13 +1,14 @@
 -- `refusal` meets its contract: the tests in document 01's order. Assumes nothing.
-use mathlib.Core.Path.{_≡_, sym, _∙_}
-use mathlib.Core.Bool.{false, _||_}
+use mathlib.Core.Path.{_≡_, sym, ap, _∙_}
+use mathlib.Core.Bool.{Bool, false, _||_, cond}
 use native.Mathlib.Omega.{arith}
 use borrow.Author.Needs.{needs}
 use borrow.Author.Tests.{eq-eqb, ne-eqb, ltb-false}
 use lib.Dec.{ltb}
 use lib.ListN.{length}
+use Rattle.codes.specs.Refusals.{number}
 use Rattle.analyser.specs.Components.{outside}
-use Rattle.analyser.specs.Finding.{shortest-recording, longest-recording}
+use Rattle.analyser.specs.Finding.{shortest-recording, longest-recording, find-refusals}
 use Rattle.analyser.proofs.Ranges.{neither}
 use Rattle.analyser.proofs.finding.refusal.Statement.{statement}
 use Rattle.analyser.proofs.finding.refusal.Tie as tie
@@ -52,29 +53,25 @@ sub-is-either-shorter c =
 is-either-shorter-requires : tie.Need-is-either-shorter-requires
 is-either-shorter-requires c κs = search needs
 
-returns-4 : tie.Need-returns-4
-returns-4 c =
-    let e = c .before .before in
+-- every test but the last has passed
+last : (c : tie.After-is-either-shorter) → let s = c .before .before .before .before .before .before .args in
+    number (find-refusals (s .re .now) (s .im .now) (s .m) (s .n)) ≡ cond (c .is-either-shorter .result) 18 0
+last c =
+    let e = c .before in
     let d = e .before .before in
     let s = d .before .before .before .args in
     rw (
       eq-eqb (length (s .re .now)) (length (s .im .now)) (d .before .before .if1 .left),
       recording d,
       components e,
-      sym (c .before .is-either-shorter .ensures) ∙ c .if4 .taken,
+      c .is-either-shorter .ensures,
     )
 
+returns-4 : tie.Need-returns-4
+returns-4 c = sym (last (c .before) ∙ ap (λ (t : Bool). cond t 18 0) (c .if4 .taken))
+
 returns-5 : tie.Need-returns-5
-returns-5 c =
-    let e = c .before .before in
-    let d = e .before .before in
-    let s = d .before .before .before .args in
-    rw (
-      eq-eqb (length (s .re .now)) (length (s .im .now)) (d .before .before .if1 .left),
-      recording d,
-      components e,
-      sym (c .before .is-either-shorter .ensures) ∙ c .if4 .left,
-    )
+returns-5 c = sym (last (c .before) ∙ ap (λ (t : Bool). cond t 18 0) (c .if4 .left))
 
 pub refusal-spec : {M : Type 1} → statement M
 refusal-spec =

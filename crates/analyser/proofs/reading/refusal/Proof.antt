@@ -1,13 +1,14 @@
 -- `refusal` meets its contract: the tests in document 01's order. Assumes nothing.
-use mathlib.Core.Path.{_≡_, sym, _∙_}
-use mathlib.Core.Bool.{true, false, _||_}
+use mathlib.Core.Path.{_≡_, sym, ap, _∙_}
+use mathlib.Core.Bool.{Bool, true, false, _||_, cond}
 use borrow.Author.Needs.{needs}
 use borrow.Author.Tests.{le-leb, lt-leb, eq-eqb, ne-eqb}
 use lib.ListN.{length}
+use Rattle.codes.specs.Refusals.{number}
 use Rattle.codes.specs.Tree.{is-spreading-factor}
 use Rattle.codes.proofs.Leaves.{no-width, some-width}
 use Rattle.analyser.specs.Components.{outside}
-use Rattle.analyser.specs.Reading.{no-field}
+use Rattle.analyser.specs.Reading.{no-field, read-refusals}
 use Rattle.analyser.proofs.reading.refusal.Statement.{statement}
 use Rattle.analyser.proofs.reading.refusal.Tie as tie
 
@@ -88,9 +89,11 @@ div-is-either-shorter c = search needs
 is-either-shorter-requires : tie.Need-is-either-shorter-requires
 is-either-shorter-requires c κs = search needs
 
-returns-7 : tie.Need-returns-7
-returns-7 c =
-    let e = c .before .before .before .before .before .before in
+-- every test but the last has passed
+last : (c : tie.After-is-either-shorter) → let s = c .before .before .before .before .before .before .before .before .before .before .before .args in
+    number (read-refusals (s .cell .0) (s .q) (s .k) (s .re .now) (s .im .now) (s .m) (s .n)) ≡ cond (c .is-either-shorter .result) 18 0
+last c =
+    let e = c .before .before .before .before .before in
     let d = e .before .before in
     let s = d .before .before .before .before .args in
     rw (
@@ -98,25 +101,16 @@ returns-7 c =
       factor d,
       lt-leb (s .q) (s .k) (e .before .if3 .left),
       eq-eqb (length (s .re .now)) (length (s .im .now)) (e .if4 .left),
-      field (c .before .before .before .before),
-      components (c .before .before),
-      sym (c .before .is-either-shorter .ensures) ∙ c .if7 .taken,
+      field (c .before .before .before),
+      components (c .before),
+      c .is-either-shorter .ensures,
     )
 
+returns-7 : tie.Need-returns-7
+returns-7 c = sym (last (c .before) ∙ ap (λ (t : Bool). cond t 18 0) (c .if7 .taken))
+
 returns-8 : tie.Need-returns-8
-returns-8 c =
-    let e = c .before .before .before .before .before .before in
-    let d = e .before .before in
-    let s = d .before .before .before .before .args in
-    rw (
-      lt-leb 128 (s .cell .0) (d .before .before .if1 .left),
-      factor d,
-      lt-leb (s .q) (s .k) (e .before .if3 .left),
-      eq-eqb (length (s .re .now)) (length (s .im .now)) (e .if4 .left),
-      field (c .before .before .before .before),
-      components (c .before .before),
-      sym (c .before .is-either-shorter .ensures) ∙ c .if7 .left,
-    )
+returns-8 c = sym (last (c .before) ∙ ap (λ (t : Bool). cond t 18 0) (c .if7 .left))
 
 pub refusal-spec : {M : Type 1} → statement M
 refusal-spec =

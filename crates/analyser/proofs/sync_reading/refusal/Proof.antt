@@ -1,10 +1,12 @@
 -- `refusal` meets its contract: the tests in document 01's order. Assumes nothing.
-use mathlib.Core.Path.{_≡_, sym, _∙_}
-use mathlib.Core.Bool.{true}
+use mathlib.Core.Path.{_≡_, sym, ap, _∙_}
+use mathlib.Core.Bool.{Bool, true, cond}
 use borrow.Author.Needs.{needs}
 use borrow.Author.Tests.{eq-eqb, ne-eqb, not-true, not-false}
 use lib.ListN.{length}
 use Rattle.codes.specs.Allocation.{one-or-two}
+use Rattle.codes.specs.Refusals.{number}
+use Rattle.analyser.specs.SyncReading.{sync-refusals}
 use Rattle.analyser.proofs.sync_reading.refusal.Statement.{statement}
 use Rattle.analyser.proofs.sync_reading.refusal.Tie as tie
 
@@ -34,9 +36,10 @@ returns-3 c =
 either-outside-requires : tie.Need-either-outside-requires
 either-outside-requires c κs = search needs
 
-returns-4 : tie.Need-returns-4
-returns-4 c =
-    let f = c .before .before in
+-- every test but the last has passed
+last : (c : tie.After-either-outside) → let s = c .before .before .before .before .before .args in number (sync-refusals (s .case) (s .re .now) (s .im .now)) ≡ cond (c .either-outside .result) 17 0
+last c =
+    let f = c .before in
     let e = f .before in
     let d = e .before in
     let s = d .before .before .args in
@@ -44,21 +47,14 @@ returns-4 c =
       good-case d,
       eq-eqb (length (s .re .now)) (length (s .im .now)) (e .if2 .left),
       eq-eqb (length (s .re .now)) 256 (f .if3 .left),
-      sym (c .before .either-outside .ensures) ∙ c .if4 .taken,
+      c .either-outside .ensures,
     )
 
+returns-4 : tie.Need-returns-4
+returns-4 c = sym (last (c .before) ∙ ap (λ (t : Bool). cond t 17 0) (c .if4 .taken))
+
 returns-5 : tie.Need-returns-5
-returns-5 c =
-    let f = c .before .before in
-    let e = f .before in
-    let d = e .before in
-    let s = d .before .before .args in
-    rw (
-      good-case d,
-      eq-eqb (length (s .re .now)) (length (s .im .now)) (e .if2 .left),
-      eq-eqb (length (s .re .now)) 256 (f .if3 .left),
-      sym (c .before .either-outside .ensures) ∙ c .if4 .left,
-    )
+returns-5 c = sym (last (c .before) ∙ ap (λ (t : Bool). cond t 17 0) (c .if4 .left))
 
 pub refusal-spec : {M : Type 1} → statement M
 refusal-spec = tie.close (tie.spec one-or-two-requires returns returns-2 returns-3 either-outside-requires returns-4 returns-5)
