@@ -17,11 +17,11 @@ The lines show long lists by a digest, and noise comes from a small generator; b
 
 import sys
 from operator import mul
-from re import findall, search
+from re import findall
 
 sys.dont_write_bytecode = True  # so that the import leaves no file behind
 import code_vectors
-from code_vectors import CODES, bad_code, demand, refused
+from code_vectors import CODES, bad_code, refused
 
 USAGE = ("usage: python3 tools/analyser_vectors.py TS-25.223-V3.3.0.txt"
          " > crates/analyser_values/stdout")
@@ -363,20 +363,5 @@ def output_lines(text):
     yield from edge_lines(codes)
 
 
-def main():
-    try:
-        (path,) = sys.argv[1:]
-        with open(path, encoding="utf-8", errors="replace") as file:
-            text = file.read()
-    except (ValueError, OSError):
-        print(USAGE, file=sys.stderr)
-        sys.exit(2)
-    title = text.strip().split("\n")[0]
-    demand(search(r"TS 1?25[ .]223 V3\.3\.0\b", title), "title", "not TS 25.223 V3.3.0")
-    # code_vectors reads the text without these marks of TeX.
-    text = text.translate(str.maketrans("", "", "${}_"))
-    sys.stdout.write("".join(line + "\n" for line in output_lines(text)))
-
-
 if __name__ == "__main__":
-    main()
+    code_vectors.write_lines(output_lines, USAGE)

@@ -251,13 +251,14 @@ def output_lines(text):
             yield line(call, *map(int, arguments.split()))
 
 
-def main():
+def write_lines(output_lines, usage):
+    """Writes the lines that output_lines makes of the standard's text, whose path is the one argument."""
     try:
         (path,) = sys.argv[1:]
         with open(path, encoding="utf-8", errors="replace") as file:
             text = file.read()
     except (ValueError, OSError):
-        print(USAGE, file=sys.stderr)
+        print(usage, file=sys.stderr)
         sys.exit(2)
     title = text.strip().split("\n")[0]
     demand(re.search(r"TS 1?25[ .]223 V3\.3\.0\b", title), "title", "not TS 25.223 V3.3.0")
@@ -267,4 +268,4 @@ def main():
 
 
 if __name__ == "__main__":
-    main()
+    write_lines(output_lines, USAGE)

@@ -9,6 +9,7 @@ use lib.Signed.{leZ}
 abbrev pub largest-component : ℕ
 largest-component = 100000
 
+-- x is from -100000 to 100000
 abbrev pub in-range : ℤ → Bool
 in-range x = leZ (negℤ (pos largest-component)) x && leZ x (pos largest-component)
 

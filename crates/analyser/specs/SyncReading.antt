@@ -2,7 +2,7 @@
 use lib.IntN.{ℤ, _+ℤ_}
 use Prim.Native.Nat.{ℕ, _+_, _/_, _%_}
 use mathlib.Core.Bool.{_||_, not, cond}
-use mathlib.Core.List.{List, [], _∷_, _++_}
+use mathlib.Core.List.{List, [], _∷_}
 use lib.Dec.{eqb}
 use lib.ListN.{length}
 use Rattle.complex.specs.declared.Complex.{Complex}
@@ -63,18 +63,17 @@ winner case chip = smallest (candidates case) (beats-others (candidates case) (s
 abbrev pub sync-length : ℕ
 sync-length = 256
 
--- Refuses 14; 12; 16 length not 256; 17;
+-- Refuses 14; 12; 16 length not 256; 17; 19 where no candidate beats all others, and only there.
 abbrev pub sync-refusals : ℕ → List ℤ → List ℤ → List Refusal
 sync-refusals case re im =
     14 if not (one-or-two case) ∷
     12 if not (eqb (length re) (length im)) ∷
     16 if not (eqb (length re) sync-length) ∷
-    17 if (outside re || outside im) ∷ []
+    17 if (outside re || outside im) ∷
+    19 if eqb (winner case (value re im)) (candidates case) ∷ []
 
--- 19 where no candidate beats all others, and only there.
 abbrev pub read-sync-call : ℕ → List ℤ → List ℤ → Answer Candidate
-read-sync-call case re im =
-    sync-refusals case re im ++ (19 if eqb (winner case (value re im)) (candidates case) ∷ []) otherwise candidate case (winner case (value re im))
+read-sync-call case re im = sync-refusals case re im otherwise candidate case (winner case (value re im))
 
 -- ---- document 01's number and values for each case of the answer
 abbrev pub told-sync : SyncAnswer → Answer Candidate

@@ -1,7 +1,7 @@
 // Reading a sync burst: correlations with the codes, and the candidate that beats every other.
 ghost use mathlib.Core.Path.{_≡_};
 ghost use Prim.Native.Nat.{_<_};
-ghost use lib.ListN.{length};
+ghost use lib.ListN.{length, take};
 ghost use Rattle.complex.specs.Arithmetic.{_+j_, _⊗_, conj};
 ghost use Rattle.complex.specs.Buffers.{listed, value};
 ghost use Rattle.complex.specs.Fits.{Both};
@@ -23,9 +23,9 @@ use codes::burst;
 use codes::sync;
 use complex::Complex;
 
-// The number of read sync's refusal before the chips are compared with the codes, or 0.
+// The number of read sync's refusal by the first four tests, before the chips are compared with the codes, or 0.
 pub fn refusal(case: u32, re: &[i32], im: &[i32]) -> u32
-    ensures { λ r. ⌜ r ≡ number (sync-refusals case (now (re .entry)) (now (im .entry))) ⌝ }
+    ensures { λ r. ⌜ r ≡ number (take 4 (sync-refusals case (now (re .entry)) (now (im .entry)))) ⌝ }
 {
     if !burst::one_or_two(case) {
         return 14;

@@ -1,13 +1,13 @@
 -- Laws of the lists that a loop writes. Assumes nothing.
 use mathlib.Core.Path.{_≡_, refl, sym, ap, _∙_}
 use mathlib.Core.List.{List, [], _∷_, _++_, append-assoc, append-nil}
-use Prim.Native.Nat.{ℕ, zero, suc, _+_, _≤_, _<_}
+use Prim.Native.Nat.{ℕ, zero, suc, _+_, _<_}
 use native.Mathlib.Nat.{not-suc-le-zero}
 use native.Mathlib.Numerals.{add-one}
 use native.Mathlib.Decide.{ℕ-discrete}
 use native.Mathlib.Omega.{arith}
 use lib.IntN.{pos}
-use lib.ListN.{length, getD, set, take, drop, length-append, length-drop, drop-of-length-le, List·getD-append}
+use lib.ListN.{length, getD, set, take, drop, length-append, drop-of-length-le, List·getD-append}
 use lib.Seq.{drop-cons, set-at, take-at, getD-at}
 use Rattle.complex.specs.declared.Complex.{Complex}
 use Rattle.complex.specs.Buffers.{value, listed, written, in-buffers}
@@ -39,11 +39,6 @@ module _ {A : Type 0} (f : ℕ → A) where
       ∙ sym (append-assoc (listed n f) (f n ∷ []) (drop (suc n) d))
       ∙ ap (λ (k : ℕ). listed (suc n) f ++ drop k d) (sym (length-listed (suc n)))
       ∙ ap (λ (k : ℕ). written (listed k f) d) (sym (add-one n))
-
-  pub length-written : (d : List A) (n : ℕ) → n ≤ length d → length (written (listed n f) d) ≡ length d
-  length-written d n h =
-      length-append (listed n f) (drop (length (listed n f)) d)
-      ∙ rw (length-drop (length (listed n f)) d, length-listed n) (omega arith)
 
   -- the written entries alone
   pub take-written : (d : List A) (n : ℕ) → take n (written (listed n f) d) ≡ listed n f

@@ -9,7 +9,7 @@ use Rattle.complex.specs.declared.Complex.{Complex}
 pub record Within (k : ℕ) (z : ℤ) : Type 0 where
   pub size : natAbs z ≤ k
 
--- both components of x are
+-- both components of x are at most k in size
 pub record Both (k : ℕ) (x : Complex) : Type 0 where
   pub re : Within k (x .re)
   pub im : Within k (x .im)

@@ -7,7 +7,7 @@ use native.Mathlib.Omega.{arith}
 use borrow.Author.Needs.{needs}
 use borrow.Author.Tests.{eq-eqb, ne-eqb, eqb-true, not-false}
 use lib.Dec.{eqb}
-use lib.ListN.{length}
+use lib.ListN.{length, take}
 use Rattle.complex.specs.Buffers.{value}
 use Rattle.codes.specs.Refusals.{refused, gives, Refusal, _if_, number}
 use Rattle.codes.proofs.Refused.{numbered, Passed, passed, accepted, not-accepted, refused-early, passed-early}
@@ -20,7 +20,7 @@ use Rattle.analyser.proofs.read_sync.Tie as tie
 
 -- the refusals before and after the candidates are compared
 abbrev early : tie.Start → List Refusal
-early c = let s = c .args in sync-refusals (s .case) (s .re .now) (s .im .now)
+early c = let s = c .args in take 4 (sync-refusals (s .case) (s .re .now) (s .im .now))
 
 abbrev late : tie.Start → List Refusal
 late c = let s = c .args in 19 if eqb (winner (s .case) (value (s .re .now) (s .im .now))) (candidates (s .case)) ∷ []

@@ -3,7 +3,7 @@ use mathlib.Core.Path.{_≡_, sym, ap, _∙_}
 use mathlib.Core.Bool.{Bool, true, cond}
 use borrow.Author.Needs.{needs}
 use borrow.Author.Tests.{eq-eqb, ne-eqb, not-true, not-false}
-use lib.ListN.{length}
+use lib.ListN.{length, take}
 use Rattle.codes.specs.Allocation.{one-or-two}
 use Rattle.codes.specs.Refusals.{number}
 use Rattle.analyser.specs.SyncReading.{sync-refusals}
@@ -37,7 +37,7 @@ either-outside-requires : tie.Need-either-outside-requires
 either-outside-requires c κs = search needs
 
 -- every test but the last has passed
-last : (c : tie.After-either-outside) → let s = c .before .before .before .before .before .args in number (sync-refusals (s .case) (s .re .now) (s .im .now)) ≡ cond (c .either-outside .result) 17 0
+last : (c : tie.After-either-outside) → let s = c .before .before .before .before .before .args in number (take 4 (sync-refusals (s .case) (s .re .now) (s .im .now))) ≡ cond (c .either-outside .result) 17 0
 last c =
     let f = c .before in
     let e = f .before in
