@@ -11,11 +11,10 @@ use lib.IntN.{ℤ, pos, negsuc, negℤ}
 use lib.ListN.{length, getD, drop, drop-of-length-le}
 use lib.Seq.{drop-cons}
 use Rattle.complex.specs.Buffers.{listed}
-use Rattle.complex.specs.Fits.{Within}
+use Rattle.complex.specs.Fits.{Within, Bound}
 use Rattle.complex.proofs.Integers.{abs-parts}
 use Rattle.complex.proofs.Order.{le-leZ}
 use Rattle.analyser.specs.Components.{largest-component, in-range, outside}
-use Rattle.analyser.specs.Held.{Bound}
 
 -- neither of two tests holds
 pub neither : (s t : Bool) → (s || t) ≡ false → (s ≡ false) × (t ≡ false)

@@ -10,7 +10,7 @@ use lib.IntN.{ℤ}
 use Rattle.complex.specs.declared.Complex.{Complex}
 use Rattle.complex.specs.Arithmetic.{real, _⊗_, conj}
 use Rattle.complex.specs.Buffers.{value, in-buffers}
-use Rattle.complex.specs.Fits.{Within, Both}
+use Rattle.complex.specs.Fits.{Within, Both, Bound}
 use Rattle.complex.proofs.Components.{both-more, both-⊗, both-conj, both-j^, both-sign, both-Σ}
 use Rattle.complex.proofs.Lists.{value-in-buffers}
 use Rattle.complex.proofs.Ring.{⊗-assoc, ⊗-comm}
@@ -19,7 +19,7 @@ use Rattle.codes.specs.Scrambling.{scrambling}
 use Rattle.codes.specs.Tree.{among, spreading-factors, is-spreading-factor, element}
 use Rattle.codes.proofs.Leaves.{element-within}
 use Rattle.codes.proofs.Rows.{v-within}
-use Rattle.analyser.specs.Held.{Bound, weight, weighed}
+use Rattle.analyser.specs.Held.{weight, weighed}
 use Rattle.analyser.specs.Reading.{reading}
 
 -- ---- a fact of every spreading factor

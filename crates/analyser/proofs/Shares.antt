@@ -8,7 +8,7 @@ use lib.IntN.{ℤ, _+ℤ_}
 use Rattle.complex.specs.declared.Complex.{Complex}
 use Rattle.complex.specs.Arithmetic.{𝟎, _⊗_, conj}
 use Rattle.complex.specs.Buffers.{value, listed}
-use Rattle.complex.specs.Fits.{Within, Both}
+use Rattle.complex.specs.Fits.{Within, Both, Bound}
 use Rattle.complex.proofs.Ring.{⊗-swap}
 use Rattle.complex.proofs.Components.{both-conj, both-⊗}
 use Rattle.complex.proofs.Lists.{value-in-buffers}
@@ -19,8 +19,9 @@ use Rattle.codes.proofs.Tests.{T-true}
 use Rattle.codes.proofs.Parts.{sync-code-below}
 use Rattle.codes.proofs.Allocations.{Known, allocation-known}
 use Rattle.analyser.specs.SyncReading.{candidate, P, S, score, sent, share}
-use Rattle.analyser.specs.Held.{Bound, correlated, part-sums, product, share-of, shares-of}
-use Rattle.analyser.proofs.Bounds.{bound-listed, signed-sum-within}
+use Rattle.analyser.specs.Held.{correlated, part-sums, product, share-of, shares-of}
+use Rattle.complex.proofs.Bounds.{bound-listed}
+use Rattle.analyser.proofs.Bounds.{signed-sum-within}
 use Rattle.analyser.proofs.Correlations.{one-minus-j-within, primary-is, secondary-is}
 
 pub share-within : {k : ℕ} {d : ℕ → Complex} {m : ModulatedCode} → ((i : ℕ) → Both k (d i)) → Known m → Within (k * 1 + k * 1) (share-of d m)

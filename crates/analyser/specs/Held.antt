@@ -10,7 +10,6 @@ use lib.Signed.{leZ, ltZ}
 use Rattle.complex.specs.declared.Complex.{Complex}
 use Rattle.complex.specs.Arithmetic.{_+j_, real, 𝟎, _⊗_, conj, Σ<, Σℤ<, squared-size}
 use Rattle.complex.specs.Buffers.{listed, value}
-use Rattle.complex.specs.Fits.{Within}
 use Rattle.codes.specs.declared.ModulatedCode.{ModulatedCode}
 use Rattle.codes.specs.declared.Allocated.{Allocated}
 use Rattle.codes.specs.SyncCodes.{a-signs, is-sync-code}
@@ -19,10 +18,6 @@ use Rattle.codes.specs.Tree.{element}
 use Rattle.codes.specs.Scrambling.{scrambling}
 use Rattle.analyser.specs.declared.largest.Largest.{Largest}
 use Rattle.analyser.specs.declared.sync_reading.Leader.{Leader}
-
--- every entry of the list is at most k in size: a record, so that k and the list are inferred from it
-pub record Bound (k : ℕ) (l : List ℤ) : Type 0 where
-  pub at : (n : ℕ) → Within k (getD l n (pos 0))
 
 -- the sum of sixteen entries, `step` apart from `from` on, with the signs of a row
 unfoldable pub signed-sum : List ℤ → ℕ → ℕ → ℕ → ℤ

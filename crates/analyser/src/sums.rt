@@ -6,8 +6,8 @@ ghost use lib.ListN.{length};
 ghost use mir.Syntax.{w64};
 ghost use mir.Val.{SFits};
 ghost use Rattle.complex.specs.Arithmetic.{_+j_, _⊗_, conj};
-ghost use Rattle.complex.specs.Fits.{Within, Both};
-ghost use Rattle.analyser.specs.Held.{Bound, signed-sum};
+ghost use Rattle.complex.specs.Fits.{Within, Both, Bound};
+ghost use Rattle.analyser.specs.Held.{signed-sum};
 use codes::signs::sign_at;
 use complex::Complex;
 

@@ -8,3 +8,4 @@ pub mod Rotations
 pub mod Sums
 pub mod Components
 pub mod Lists
+pub mod Bounds

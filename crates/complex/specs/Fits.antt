@@ -2,12 +2,18 @@
 use mir.Syntax.{w32}
 use mir.Val.{SFits}
 use Prim.Native.Nat.{ℕ, _≤_}
-use lib.IntN.{ℤ, natAbs, _+ℤ_, _-ℤ_, _*ℤ_}
+use lib.IntN.{ℤ, pos, natAbs, _+ℤ_, _-ℤ_, _*ℤ_}
+use lib.ListN.{getD}
+use mathlib.Core.List.{List}
 use Rattle.complex.specs.declared.Complex.{Complex}
 
 -- z is at most k in size: a record, so that k and z are inferred from it
 pub record Within (k : ℕ) (z : ℤ) : Type 0 where
   pub size : natAbs z ≤ k
+
+-- every entry of the list is at most k in size
+pub record Bound (k : ℕ) (l : List ℤ) : Type 0 where
+  pub at : (n : ℕ) → Within k (getD l n (pos 0))
 
 -- both components of x are at most k in size
 pub record Both (k : ℕ) (x : Complex) : Type 0 where

@@ -9,13 +9,15 @@ use lib.ListN.{length, take}
 use mir.Syntax.{w64}
 use mir.Val.{SFits}
 use mir.Facts.{toZ-ofZ}
+use Rattle.complex.specs.Fits.{Bound}
 use Rattle.complex.specs.Buffers.{value, listed, written}
 use Rattle.complex.proofs.Lists.{length-listed, take-written}
 use Rattle.codes.specs.SyncCodes.{a}
 use Rattle.codes.specs.Held.{packed}
 use Rattle.analyser.specs.Finding.{size-from}
-use Rattle.analyser.specs.Held.{Bound, Peaks, signed-sum, size-at}
-use Rattle.analyser.proofs.Bounds.{bound-listed, signed-sum-within}
+use Rattle.analyser.specs.Held.{Peaks, signed-sum, size-at}
+use Rattle.complex.proofs.Bounds.{bound-listed}
+use Rattle.analyser.proofs.Bounds.{signed-sum-within}
 use Rattle.analyser.proofs.Choosing.{peaks-cong, peaks-is}
 use Rattle.analyser.proofs.Correlations.{size-is}
 use Rattle.analyser.proofs.finding.peak.Statement.{statement}

@@ -11,7 +11,7 @@ use Rattle.complex.specs.Buffers.{listed, written}
 use Rattle.complex.proofs.Lists.{one-more-written}
 use Rattle.codes.specs.SyncCodes.{a}
 use Rattle.codes.specs.Held.{packed}
-use Rattle.analyser.proofs.Bounds.{bound-more}
+use Rattle.complex.proofs.Bounds.{bound-more}
 use Rattle.analyser.specs.Held.{signed-sum}
 use Rattle.analyser.proofs.finding.sums.Statement.{statement}
 use Rattle.analyser.proofs.finding.sums.Tie as tie

@@ -8,13 +8,14 @@ use lib.ListN.{length, set, length-set}
 use mir.Syntax.{w32}
 use mir.Val.{SFits}
 use mir.Facts.{toZ-ofZ}
+use Rattle.complex.specs.Fits.{Bound}
 use Rattle.complex.specs.declared.Complex.{Complex}
 use Rattle.complex.specs.Buffers.{listed, value, written}
 use Rattle.complex.proofs.Lists.{one-more-written}
-use Rattle.analyser.specs.Held.{Bound, weighed}
+use Rattle.analyser.specs.Held.{weighed}
 use Rattle.analyser.specs.Reading.{reading}
 use Rattle.analyser.proofs.Readings.{factor-range, weight-both, reading-is}
-use Rattle.analyser.proofs.Bounds.{bound-listed}
+use Rattle.complex.proofs.Bounds.{bound-listed}
 use Rattle.analyser.proofs.reading.all.Statement.{statement}
 use Rattle.analyser.proofs.reading.all.Tie as tie
 

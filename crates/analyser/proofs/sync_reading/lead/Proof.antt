@@ -5,12 +5,12 @@ use borrow.Author.Needs.{needs}
 use lib.IntN.{ℤ}
 use lib.Dec.{lit≤}
 use Rattle.complex.specs.Buffers.{listed}
-use Rattle.complex.specs.Fits.{Both}
+use Rattle.complex.specs.Fits.{Both, Bound}
 use Rattle.codes.specs.SyncCodes.{b}
 use Rattle.codes.specs.Held.{packed}
 use Rattle.analyser.specs.SyncReading.{candidates}
-use Rattle.analyser.specs.Held.{Bound, Leads, part-sums, product}
-use Rattle.analyser.proofs.Bounds.{bound-listed, bound-more}
+use Rattle.analyser.specs.Held.{Leads, part-sums, product}
+use Rattle.complex.proofs.Bounds.{bound-listed, bound-more}
 use Rattle.analyser.proofs.Shares.{P-within, parts-bound, product-within, scores-are}
 use Rattle.analyser.proofs.sync_reading.lead.Statement.{statement}
 use Rattle.analyser.proofs.sync_reading.lead.Tie as tie

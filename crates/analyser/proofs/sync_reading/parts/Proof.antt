@@ -9,7 +9,7 @@ use mir.Val.{SFits}
 use mir.Facts.{toZ-ofZ}
 use Rattle.complex.specs.Buffers.{listed, written}
 use Rattle.complex.proofs.Lists.{one-more-written, all-written}
-use Rattle.analyser.proofs.Bounds.{bound-more}
+use Rattle.complex.proofs.Bounds.{bound-more}
 use Rattle.analyser.specs.Held.{signed-sum}
 use Rattle.analyser.proofs.sync_reading.parts.Statement.{statement}
 use Rattle.analyser.proofs.sync_reading.parts.Tie as tie

@@ -1,9 +1,10 @@
 -- `primary` meets its contract. Assumes nothing.
 use mathlib.Core.Path.{_≡_, sym, ap, _∙_, subst}
 use borrow.Author.Needs.{needs}
+use Rattle.complex.specs.Fits.{Bound}
 use Rattle.codes.specs.SyncCodes.{a}
 use Rattle.codes.specs.Held.{packed}
-use Rattle.analyser.specs.Held.{Bound, correlated, part-sums}
+use Rattle.analyser.specs.Held.{correlated, part-sums}
 use Rattle.analyser.proofs.Correlations.{primary-is}
 use Rattle.analyser.proofs.Shares.{parts-bound}
 use Rattle.analyser.proofs.sync_reading.primary.Statement.{statement}

@@ -7,13 +7,14 @@ use lib.ListN.{set}
 use mir.Syntax.{w64}
 use mir.Val.{SFits}
 use mir.Facts.{toZ-ofZ}
+use Rattle.complex.specs.Fits.{Bound}
 use Rattle.complex.specs.declared.Complex.{Complex}
 use Rattle.complex.specs.Arithmetic.{_+j_}
 use Rattle.complex.specs.Buffers.{listed, written}
 use Rattle.complex.proofs.Lists.{one-more-written, all-written}
 use Rattle.codes.specs.SyncCodes.{b}
 use Rattle.codes.specs.Held.{packed}
-use Rattle.analyser.specs.Held.{Bound, part-sums, product}
+use Rattle.analyser.specs.Held.{part-sums, product}
 use Rattle.analyser.proofs.Shares.{parts-bound}
 use Rattle.analyser.proofs.sync_reading.products.Statement.{statement}
 use Rattle.analyser.proofs.sync_reading.products.Tie as tie

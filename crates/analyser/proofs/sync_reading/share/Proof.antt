@@ -8,10 +8,11 @@ use Prim.Native.Nat.{ℕ}
 use mir.Syntax.{w32, w64}
 use mir.Val.{SFits, toZ, ofZ}
 use mir.Facts.{toZ-ofZ}
+use Rattle.complex.specs.Fits.{Bound}
 use Rattle.complex.specs.declared.Complex.{Complex}
 use Rattle.complex.specs.Buffers.{value}
 use Rattle.complex.proofs.Sizes.{fits-within}
-use Rattle.analyser.specs.Held.{Bound, share-of}
+use Rattle.analyser.specs.Held.{share-of}
 use Rattle.analyser.proofs.Products.{products-fit, held, times-conj}
 use Rattle.analyser.proofs.sync_reading.share.Statement.{statement}
 use Rattle.analyser.proofs.sync_reading.share.Tie as tie
