@@ -1,6 +1,6 @@
 -- Lists whose components are in range, and the scan that tests them. Assumes nothing.
 use mathlib.Core.Path.{_≡_, refl, sym, _∙_}
-use mathlib.Core.Bool.{Bool, true, false, _||_, not, true≢false, and-true, or-true}
+use mathlib.Core.Bool.{Bool, true, false, _||_, not, and-true, or-true}
 use mathlib.Core.List.{List, [], _∷_, _++_}
 use Prim.Native.Nat.{ℕ, zero, suc, _+_, _≤_, _<_}
 use native.Mathlib.Numerals.{add-one}
@@ -14,12 +14,8 @@ use Rattle.complex.specs.Buffers.{listed}
 use Rattle.complex.specs.Fits.{Within, Bound}
 use Rattle.complex.proofs.Integers.{abs-parts}
 use Rattle.complex.proofs.Order.{le-leZ}
+use Rattle.codes.proofs.Tests.{neither}
 use Rattle.analyser.specs.Components.{largest-component, in-range, outside}
-
--- neither of two tests holds
-pub neither : (s t : Bool) → (s || t) ≡ false → (s ≡ false) × (t ≡ false)
-neither true t e = absurd (true≢false e)
-neither false t e = (refl, e)
 
 in-range-within : (x : ℤ) → in-range x ≡ true → Within largest-component x
 in-range-within (pos n) e = record { size = leb-true n 100000 e }

@@ -1,11 +1,9 @@
 -- Readings: sixteen weights, which repeat every sixteen chips, give the sum of the definition. Assumes nothing.
 use mathlib.Core.Path.{_≡_, sym, ap, ap₂, _∙_, subst}
-use mathlib.Core.Bool.{true, false≢true}
-use mathlib.Core.List.{List, [], _∷_}
+use mathlib.Core.Bool.{true}
+use mathlib.Core.List.{List}
 use Prim.Native.Nat.{ℕ, _+_, _*_, _%_, _<_, _≤_}
-use native.Mathlib.Decide.{ℕ-discrete}
 use native.Mathlib.Omega.{arith}
-use borrow.Author.Tests.{ne-eqb}
 use lib.IntN.{ℤ}
 use Rattle.complex.specs.declared.Complex.{Complex}
 use Rattle.complex.specs.Arithmetic.{real, _⊗_, conj}
@@ -16,34 +14,20 @@ use Rattle.complex.proofs.Lists.{value-in-buffers}
 use Rattle.complex.proofs.Ring.{⊗-assoc, ⊗-comm}
 use Rattle.complex.proofs.Sums.{Σ-cong}
 use Rattle.codes.specs.Scrambling.{scrambling}
-use Rattle.codes.specs.Tree.{among, spreading-factors, is-spreading-factor, element}
+use Rattle.codes.specs.Tree.{is-spreading-factor, element}
+use Rattle.codes.proofs.Factors.{of-factors}
 use Rattle.codes.proofs.Leaves.{element-within}
 use Rattle.codes.proofs.Rows.{v-within}
 use Rattle.analyser.specs.Held.{weight, weighed}
 use Rattle.analyser.specs.Reading.{reading}
 
 -- ---- a fact of every spreading factor
-abbrev All : (ℕ → Type 0) → List ℕ → Type 0
-All P [] = Unit {0}
-All P (x ∷ xs) = P x × All P xs
-
-of-all : (P : ℕ → Type 0) (xs : List ℕ) → All P xs → (n : ℕ) → among n xs ≡ true → P n
-of-all P [] a n t = absurd (false≢true t)
-of-all P (x ∷ xs) a n t = go (ℕ-discrete n x) (of-all P xs (a .1) n)
-  where
-    go : Dec (n ≡ x) → (among n xs ≡ true → P n) → P n
-    go (yes e) r = subst P (sym e) (a .0)
-    go (no e) r = r (rw (ne-eqb n x e) at t)
-
-pub factor-range : (Q : ℕ) → is-spreading-factor Q ≡ true → (0 < Q) × (Q ≤ 16)
-factor-range = of-all (λ Q. (0 < Q) × (Q ≤ 16)) spreading-factors (omega arith, (omega arith, (omega arith, (omega arith, (omega arith, tt)))))
-
 -- chip i of reading n has element i of the code
 abbrev Aligned : ℕ → Type 0
 Aligned Q = (n i : ℕ) → i < Q → (n * Q + i) % 16 % Q ≡ i
 
 aligned : (Q : ℕ) → is-spreading-factor Q ≡ true → Aligned Q
-aligned = of-all Aligned spreading-factors (λ n i l. omega arith, (λ n i l. omega arith, (λ n i l. omega arith, (λ n i l. omega arith, (λ n i l. omega arith, tt)))))
+aligned = of-factors Aligned (λ n i l. omega arith) (λ n i l. omega arith) (λ n i l. omega arith) (λ n i l. omega arith) (λ n i l. omega arith)
 
 -- ---- the sizes
 pub real-both : {k : ℕ} {s : ℤ} → Within k s → Both k (real s)

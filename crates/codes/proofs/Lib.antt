@@ -5,3 +5,4 @@ pub mod Leaves
 pub mod Parts
 pub mod Refused
 pub mod Allocations
+pub mod Factors

@@ -1,6 +1,6 @@
 -- A rule over finitely many cases is one test that antt computes, and one law that turns it into the rule at each case. Assumes nothing.
 use mathlib.Core.Path.{_≡_, refl, sym, ap, subst, _∙_}
-use mathlib.Core.Bool.{Bool, true, false, _&&_, cond, not}
+use mathlib.Core.Bool.{Bool, true, false, _&&_, _||_, cond, not, true≢false}
 use mathlib.Core.List.{List, [], _∷_}
 use Prim.Native.Nat.{ℕ, zero, suc, _+_, _≤_, _<_}
 use native.Mathlib.Nat.{not-suc-le-zero}
@@ -112,3 +112,8 @@ among-below k n (x ∷ xs) t u = go (ℕ-discrete n x) (among-below k n xs)
     go : Dec (n ≡ x) → (T (all-below k xs) → T (among n xs) → n < k) → n < k
     go (yes e) r = let h : x < k = ltb→lt x k (both .0) in omega arith
     go (no e) r = r (both .1) (rw (ne-eqb n x e) at u)
+
+-- neither of two tests holds
+pub neither : (s t : Bool) → (s || t) ≡ false → (s ≡ false) × (t ≡ false)
+neither true t e = absurd (true≢false e)
+neither false t e = (refl, e)

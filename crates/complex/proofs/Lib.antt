@@ -9,3 +9,4 @@ pub mod Sums
 pub mod Components
 pub mod Lists
 pub mod Bounds
+pub mod Stored

@@ -1,5 +1,5 @@
 -- Laws of the lists that a loop writes. Assumes nothing.
-use mathlib.Core.Path.{_≡_, refl, sym, ap, _∙_}
+use mathlib.Core.Path.{_≡_, refl, sym, ap, ap₂, _∙_}
 use mathlib.Core.List.{List, [], _∷_, _++_, append-assoc, append-nil}
 use Prim.Native.Nat.{ℕ, zero, suc, _+_, _<_}
 use native.Mathlib.Nat.{not-suc-le-zero}
@@ -49,6 +49,12 @@ module _ {A : Type 0} (f : ℕ → A) where
   all-written d n e =
       ap (λ (t : List A). listed n f ++ t) (drop-of-length-le d {i = length (listed n f)} (omega (arith, length-listed n)))
       ∙ append-nil (listed n f)
+
+-- equal entries, equal lists
+pub listed-cong : {A : Type 0} (n : ℕ) (f g : ℕ → A) → ((i : ℕ) → i < n → f i ≡ g i) → listed n f ≡ listed n g
+unfolding listed
+listed-cong zero f g h = refl
+listed-cong {A} (suc n) f g h = ap₂ (λ (l : List A) (x : A). l ++ (x ∷ [])) (listed-cong n f g (λ i l. h i (omega arith))) (h n (omega arith))
 
 -- values put in buffers, and taken out
 pub value-in-buffers : (n : ℕ) (f : ℕ → Complex) (k : ℕ) → k < n → value (in-buffers n f .re) (in-buffers n f .im) k ≡ f k

@@ -6,9 +6,10 @@ use native.Mathlib.Nat.{not-suc-le-zero, add-zero, add-suc, zero-mul, suc-mul}
 use native.Mathlib.Decide.{ℕ-discrete}
 use native.Mathlib.Omega.{arith}
 use native.Mathlib.Numerals.{add-one}
-use lib.IntN.{ℤ, _+ℤ_}
+use lib.IntN.{ℤ, _+ℤ_, +ℤ-assoc}
 use Rattle.complex.specs.declared.Complex.{Complex}
 use Rattle.complex.specs.Arithmetic.{_+j_, real, 𝟎, _⊕_, _⊗_, conj, Σ<, Σℤ<}
+use Rattle.complex.proofs.Integers.{ring}
 use Rattle.complex.proofs.Ring.{sums, ⊕-assoc, ⊕-𝟎, 𝟎-⊕, ⊗-𝟎, ⊗-⊕, conj-⊕, real-+ℤ}
 
 pub Σ-𝟎 : (n : ℕ) → Σ< n (λ i. 𝟎) ≡ 𝟎
@@ -90,3 +91,17 @@ pub real-Σ : (n : ℕ) (f : ℕ → ℤ) → real (Σℤ< n f) ≡ Σ< n (λ i.
 unfolding Σ< Σℤ< 𝟎 real
 real-Σ zero f = refl
 real-Σ (suc n) f = real-+ℤ (Σℤ< n f) (f n) ∙ ap (λ (t : Complex). t ⊕ real (f n)) (real-Σ n f)
+
+pub Σℤ-+ : (n : ℕ) (f g : ℕ → ℤ) → Σℤ< n (λ i. f i +ℤ g i) ≡ Σℤ< n f +ℤ Σℤ< n g
+unfolding Σℤ<
+Σℤ-+ zero f g = refl
+Σℤ-+ (suc n) f g = rw (Σℤ-+ n f g) (simp ring)
+
+-- the terms two by two
+pub Σℤ-pairs : (n : ℕ) (f : ℕ → ℤ) → Σℤ< (2 * n) f ≡ Σℤ< n (λ k. f (2 * k) +ℤ f (2 * k + 1))
+unfolding Σℤ<
+Σℤ-pairs zero f = refl
+Σℤ-pairs (suc n) f =
+    let e : 2 * suc n ≡ suc (suc (2 * n)) = omega arith in
+    let d : 2 * n + 1 ≡ suc (2 * n) = omega arith in
+    rw (e, d, Σℤ-pairs n f, +ℤ-assoc)

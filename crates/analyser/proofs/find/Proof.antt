@@ -12,7 +12,8 @@ use Rattle.codes.proofs.Refused.{numbered, Passed, passed, accepted, not-accept
 use Rattle.analyser.specs.declared.Peak.{Peak}
 use Rattle.analyser.specs.Components.{outside}
 use Rattle.analyser.specs.Finding.{find-refusals, ScratchLeft}
-use Rattle.analyser.proofs.Ranges.{neither, not-outside}
+use Rattle.codes.proofs.Tests.{neither}
+use Rattle.analyser.proofs.Ranges.{not-outside}
 use Rattle.analyser.proofs.find.Statement.{statement}
 use Rattle.analyser.proofs.find.Tie as tie
 

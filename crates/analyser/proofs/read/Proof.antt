@@ -14,7 +14,8 @@ use Rattle.codes.specs.Tree.{is-spreading-factor}
 use Rattle.codes.proofs.Refused.{numbered, passed, Passed, accepted, not-accepted}
 use Rattle.analyser.specs.Components.{outside}
 use Rattle.analyser.specs.Reading.{longest-field, read-refusals}
-use Rattle.analyser.proofs.Ranges.{neither, not-outside}
+use Rattle.codes.proofs.Tests.{neither}
+use Rattle.analyser.proofs.Ranges.{not-outside}
 use Rattle.analyser.proofs.read.Statement.{statement}
 use Rattle.analyser.proofs.read.Tie as tie
 

@@ -14,7 +14,8 @@ use Rattle.codes.proofs.Refused.{numbered, Passed, passed, accepted, not-accept
 use Rattle.analyser.specs.Components.{outside}
 use Rattle.analyser.specs.SyncReading.{candidate, candidates, sync-refusals, winner}
 use Rattle.analyser.proofs.Leading.{leads-is, leads-none}
-use Rattle.analyser.proofs.Ranges.{neither, not-outside}
+use Rattle.codes.proofs.Tests.{neither}
+use Rattle.analyser.proofs.Ranges.{not-outside}
 use Rattle.analyser.proofs.read_sync.Statement.{statement}
 use Rattle.analyser.proofs.read_sync.Tie as tie
 

@@ -9,7 +9,7 @@ use lib.ListN.{length}
 use Rattle.codes.specs.Refusals.{number}
 use Rattle.analyser.specs.Components.{outside}
 use Rattle.analyser.specs.Finding.{shortest-recording, longest-recording, find-refusals}
-use Rattle.analyser.proofs.Ranges.{neither}
+use Rattle.codes.proofs.Tests.{neither}
 use Rattle.analyser.proofs.finding.refusal.Statement.{statement}
 use Rattle.analyser.proofs.finding.refusal.Tie as tie
 

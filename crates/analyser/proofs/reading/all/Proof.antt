@@ -14,7 +14,8 @@ use Rattle.complex.specs.Buffers.{listed, value, written}
 use Rattle.complex.proofs.Lists.{one-more-written}
 use Rattle.analyser.specs.Held.{weighed}
 use Rattle.analyser.specs.Reading.{reading}
-use Rattle.analyser.proofs.Readings.{factor-range, weight-both, reading-is}
+use Rattle.codes.proofs.Factors.{factor-range}
+use Rattle.analyser.proofs.Readings.{weight-both, reading-is}
 use Rattle.complex.proofs.Bounds.{bound-listed}
 use Rattle.analyser.proofs.reading.all.Statement.{statement}
 use Rattle.analyser.proofs.reading.all.Tie as tie
