@@ -10,7 +10,7 @@ use borrow.Author.Tests.{eq-eqb, ne-eqb}
 use lib.Dec.{T, eqb, eqb→eq, ltb, ltb→lt}
 use mir.Facts.{and-yes}
 use lib.IntN.{ℤ, pos, negsuc}
-use Rattle.codes.specs.Range.{each}
+use Rattle.codes.specs.Range.{each, any}
 use Rattle.codes.specs.Held.{NoneOf-after, NoneOf, from}
 use Rattle.codes.specs.Tree.{among}
 
@@ -117,3 +117,13 @@ among-below k n (x ∷ xs) t u = go (ℕ-discrete n x) (among-below k n xs)
 pub neither : (s t : Bool) → (s || t) ≡ false → (s ≡ false) × (t ≡ false)
 neither true t e = absurd (true≢false e)
 neither false t e = (refl, e)
+
+-- a test that passes at no number below n
+pub none-at : (n : ℕ) (f : ℕ → Bool) → any n f ≡ false → (k : ℕ) → k < n → f k ≡ false
+unfolding any
+none-at zero f e k l = absurd (not-suc-le-zero l)
+none-at (suc n) f e k l = pick (ℕ-discrete k n) (none-at n f (neither (f n) (any n f) e .1) k)
+  where
+    pick : Dec (k ≡ n) → (k < n → f k ≡ false) → f k ≡ false
+    pick (yes p) r = rw p (neither (f n) (any n f) e .0)
+    pick (no p) r = r (omega arith)
