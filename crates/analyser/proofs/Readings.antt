@@ -8,8 +8,8 @@ use lib.IntN.{ℤ}
 use Rattle.complex.specs.declared.Complex.{Complex}
 use Rattle.complex.specs.Arithmetic.{real, _⊗_, conj}
 use Rattle.complex.specs.Buffers.{value, in-buffers}
-use Rattle.complex.specs.Fits.{Within, Both, Bound}
-use Rattle.complex.proofs.Components.{both-more, both-⊗, both-conj, both-j^, both-sign, both-Σ}
+use Rattle.complex.specs.Fits.{Both, Bound}
+use Rattle.complex.proofs.Components.{both-more, both-⊗, both-conj, both-sign, both-Σ}
 use Rattle.complex.proofs.Lists.{value-in-buffers}
 use Rattle.complex.proofs.Ring.{⊗-assoc, ⊗-comm}
 use Rattle.complex.proofs.Sums.{Σ-cong}
@@ -17,7 +17,7 @@ use Rattle.codes.specs.Scrambling.{scrambling}
 use Rattle.codes.specs.Tree.{is-spreading-factor, element}
 use Rattle.codes.proofs.Factors.{of-factors}
 use Rattle.codes.proofs.Leaves.{element-within}
-use Rattle.codes.proofs.Rows.{v-within}
+use Rattle.codes.proofs.Rows.{scrambling-both}
 use Rattle.analyser.specs.Held.{weight, weighed}
 use Rattle.analyser.specs.Reading.{reading}
 
@@ -30,14 +30,6 @@ aligned : (Q : ℕ) → is-spreading-factor Q ≡ true → Aligned Q
 aligned = of-factors Aligned (λ n i l. omega arith) (λ n i l. omega arith) (λ n i l. omega arith) (λ n i l. omega arith) (λ n i l. omega arith)
 
 -- ---- the sizes
-pub real-both : {k : ℕ} {s : ℤ} → Within k s → Both k (real s)
-unfolding real
-real-both h = record { re = h; im = record { size = omega arith } }
-
-pub scrambling-both : (p i : ℕ) → Both 1 (scrambling p (i + 1))
-unfolding scrambling
-scrambling-both p i = both-j^ (real-both (v-within p i)) (i + 1)
-
 pub weight-both : (p Q k i : ℕ) → Both 1 (weight p Q k i)
 unfolding weight
 weight-both p Q k i =

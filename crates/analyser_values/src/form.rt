@@ -1,5 +1,5 @@
 // Lines with numbers in them.
-use crate::signals;
+use code_text::complement;
 use code_text::print;
 
 // Numbers for a line or a call.
@@ -36,7 +36,7 @@ fn item(b: u8, row: Row) -> Row {
             shifted(row)
         }
         b'~' => {
-            print::integer(signals::signed(row.0));
+            print::integer(complement::signed(row.0));
             shifted(row)
         }
         _ => {

@@ -6,6 +6,7 @@ use crate::signals;
 use crate::signals::Chips;
 use crate::signals::IM;
 use analyser::ReadAnswer;
+use code_text::complement;
 use codes::CellParameter;
 
 pub fn all() {
@@ -50,7 +51,7 @@ fn levels(q: u32) {
 fn level(p: u32, q: u32, k: u32) {
     let mut chips = signals::zeros();
     signals::add_level(&mut chips, 0, 32, 100000);
-    signals::add_level(&mut chips, IM, 32, signals::word(-100000));
+    signals::add_level(&mut chips, IM, 32, complement::word(-100000));
     let digest = signals::digest_of(&chips, 32);
     form::line(
         b"read-level # # # # chips #: ",
@@ -124,7 +125,7 @@ fn readings(re: &[i32], im: &[i32], last: u32) {
 fn entry(s: &[i32], at: u32) -> u32 {
     let i = at as usize;
     if i < s.len() {
-        return signals::word(s[i]);
+        return complement::word(s[i]);
     }
     0
 }

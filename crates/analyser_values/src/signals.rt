@@ -1,4 +1,6 @@
 // Chips, noise, sync bursts and digests. A signed number is computed with as its two's complement, modulo 2^32.
+use code_text::complement::signed;
+use code_text::complement::word;
 use codes::Allocated;
 use codes::ModulatedCode;
 
@@ -13,30 +15,6 @@ pub const IM: usize = 5121;
 struct Words {
     re: u32,
     im: u32,
-}
-
-// x, or 0 where x is negative.
-fn not_negative(x: i32) -> u32 {
-    if x < 0 {
-        return 0;
-    }
-    x as u32
-}
-
-// The two's complement.
-pub fn word(x: i32) -> u32 {
-    if x < 0 {
-        return std::num::wrapping_sub_u32(4294967295, not_negative(!x));
-    }
-    not_negative(x)
-}
-
-// The number with the two's complement x. `!y` is -y - 1.
-pub fn signed(x: u32) -> i32 {
-    if x < 2147483648 {
-        return x as i32;
-    }
-    !((4294967295 - x) as i32)
 }
 
 fn sum(x: i32, y: u32) -> i32 {

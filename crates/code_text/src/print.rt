@@ -1,4 +1,5 @@
 // Text on standard output.
+use crate::complement::not_negative;
 use complex::Complex;
 
 pub fn byte(b: u8) {
@@ -15,14 +16,6 @@ fn wide(x: u32) -> u64 {
 
 pub fn natural(x: u32) {
     io::print_decimal(1, wide(x));
-}
-
-// x, or 0 where x is negative.
-fn not_negative(x: i32) -> u32 {
-    if x < 0 {
-        return 0;
-    }
-    x as u32
 }
 
 // `!x` is -x - 1, and fits whatever x is.

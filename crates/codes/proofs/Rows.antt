@@ -11,11 +11,12 @@ use native.Mathlib.Omega.{arith}
 use lib.Dec.{T, eqb, ltb, lit≤}
 use lib.IntN.{ℤ, pos}
 use lib.ListN.{length, List·getD-eq-default}
-use Rattle.complex.specs.Fits.{Within}
+use Rattle.complex.specs.Fits.{Within, Both}
+use Rattle.complex.proofs.Components.{both-j^, real-both}
 use Rattle.codes.specs.Signs.{_at_, minus-if}
 use Rattle.codes.specs.Held.{packed, sign-bit}
 use Rattle.codes.specs.AnnexA.{annex-A}
-use Rattle.codes.specs.Scrambling.{row, v}
+use Rattle.codes.specs.Scrambling.{row, v, scrambling}
 use Rattle.codes.specs.Tree.{code}
 use Rattle.codes.specs.SyncCodes.{a, a-signs, b, b-signs}
 use Rattle.codes.specs.Range.{each}
@@ -83,6 +84,10 @@ v-within p i = subst (Within 1) (sym (v-at p i)) (go (decLe 128 p))
     go : Dec (128 ≤ p) → Within 1 (row p at i)
     go (yes g) = subst (Within 1) (sym (no-row-at p i g)) (record { size = lit≤ tt })
     go (no g) = row-within (row p) (each-at 128 (λ p. reads-back (row p)) annex-test p (lt-of-not-le g)) i
+
+pub scrambling-both : (p i : ℕ) → Both 1 (scrambling p (i + 1))
+unfolding scrambling
+scrambling-both p i = both-j^ (real-both (v-within p i)) (i + 1)
 
 -- the sequences of the sync codes
 pub a-test : T (reads-back a)

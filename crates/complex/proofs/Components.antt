@@ -13,6 +13,10 @@ use Rattle.complex.proofs.Sizes.{within-neg, within-more, within-add, w
 use Rattle.complex.proofs.Ring.{𝟏-⊗, ⊗-assoc, real-⊗}
 use Rattle.complex.proofs.Rotations.{𝐣-⊗}
 
+pub real-both : {k : ℕ} {s : ℤ} → Within k s → Both k (real s)
+unfolding real
+real-both h = record { re = h; im = record { size = omega arith } }
+
 module _ {k : ℕ} {x : Complex} (h : Both k x) where
   pub both-more : (l : ℕ) → k ≤ l → Both l x
   both-more l g = record { re = within-more (h .re) l g; im = within-more (h .im) l g }

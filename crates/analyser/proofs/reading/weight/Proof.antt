@@ -6,11 +6,11 @@ use mir.Val.{SFits, toZ, ofZ}
 use mir.Facts.{toZ-ofZ}
 use Rattle.complex.specs.Arithmetic.{real, _⊗_, conj}
 use Rattle.complex.specs.Fits.{Within, Both}
-use Rattle.complex.proofs.Components.{both-conj, both-fits, product-fits}
+use Rattle.complex.proofs.Components.{both-conj, both-fits, product-fits, real-both}
 use Rattle.codes.specs.Tree.{element}
 use Rattle.codes.proofs.Leaves.{element-within}
 use Rattle.analyser.specs.Held.{weight}
-use Rattle.analyser.proofs.Readings.{real-both, scrambling-both}
+use Rattle.codes.proofs.Rows.{scrambling-both}
 use Rattle.analyser.proofs.reading.weight.Statement.{statement}
 use Rattle.analyser.proofs.reading.weight.Tie as tie
 

@@ -1,0 +1,31 @@
+-- `set_cell` meets its contract: a refusal, or the settings with nothing open. Assumes nothing.
+use mathlib.Core.List.{List}
+use borrow.Author.Needs.{needs}
+use Rattle.codes.specs.Refusals.{Refusal}
+use Rattle.codes.proofs.Refused.{numbered}
+use Rattle.bench.specs.BenchCalls.{set-cell-refusals}
+use Rattle.bench.proofs.Accepted.{call-refused, call-accepted}
+use Rattle.bench.proofs.Bench.set_cell.Statement.{statement}
+use Rattle.bench.proofs.Bench.set_cell.Tie as tie
+
+abbrev refusals : tie.Start → List Refusal
+refusals c = set-cell-refusals (c .args .cell .0) (c .args .kind)
+
+set-cell-requires : tie.Need-set-cell-requires
+set-cell-requires c κs = search needs
+
+returns : tie.Need-returns
+returns c = let d = c .before in call-refused (refusals (d .before)) (d .before .args .self) _ (d .set-cell .ensures) (c .if1 .taken)
+
+no-sync-requires : tie.Need-no-sync-requires
+no-sync-requires c κs = search needs
+
+returns-2 : tie.Need-returns-2
+unfolding numbered
+returns-2 c =
+    let f = c .before .before in
+    let d = f .before .before in
+    rw (f .no-sync .ensures) (call-accepted (refusals (d .before)) (d .before .args .self) _ (d .set-cell .ensures) tt (f .before .if1 .left))
+
+pub set-cell-spec : {M : Type 1} → statement M
+set-cell-spec = tie.close (tie.spec set-cell-requires returns no-sync-requires returns-2)

@@ -1,0 +1,39 @@
+-- `set_gain` meets its contract: a refusal, or the gain, and the bits as they were. Assumes nothing.
+use mathlib.Core.List.{List}
+use borrow.Author.Needs.{needs}
+use Rattle.codes.specs.Refusals.{Refusal}
+use Rattle.codes.proofs.Refused.{numbered, Passed}
+use Rattle.slot.specs.Tables.{view}
+use Rattle.bench.specs.BenchCalls.{set-gain-refusals}
+use Rattle.bench.proofs.Accepted.{call-refused, call-accepted, passed-all, good-code, gain-small}
+use Rattle.bench.proofs.Bench.set_gain.Statement.{statement}
+use Rattle.bench.proofs.Bench.set_gain.Tie as tie
+
+abbrev refusals : tie.Start → List Refusal
+refusals c = let s = c .args in set-gain-refusals (view (s .self .settings)) (s .q) (s .k) (s .gain)
+
+returns : tie.Need-returns
+returns c =
+    let s = c .before .before in
+    call-refused (refusals s) (s .args .self) _ (c .before .set-gain .ensures) (c .if1 .taken)
+
+-- what the tests leave
+tests : (c : tie.Else1) → Passed (refusals (c .before .before))
+unfolding numbered
+tests c = passed-all (refusals (c .before .before)) (c .before .set-gain .ensures) tt (c .if1 .left)
+
+with-code-requires : tie.Need-with-code-requires
+with-code-requires c κs =
+    let s = c .before .before .args in
+    let h = good-code (s .q) (s .k) (tests c .0) (tests c .1 .0) in
+    (h .factor, h .below, gain-small (s .gain) (tests c .1 .1 .0))
+
+returns-2 : tie.Need-returns-2
+unfolding numbered
+returns-2 c =
+    let e = c .before in
+    let s = e .before .before in
+    rw (c .with-code .ensures) (call-accepted (refusals s) (s .args .self) _ (e .before .set-gain .ensures) tt (e .if1 .left))
+
+pub set-gain-spec : {M : Type 1} → statement M
+set-gain-spec = tie.close (tie.spec (λ c κs. search needs) returns with-code-requires returns-2)

@@ -1,0 +1,4 @@
+pub mod Opened
+pub mod Accepted
+pub mod Pairs
+pub mod Loading

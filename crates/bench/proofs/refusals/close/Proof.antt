@@ -1,0 +1,51 @@
+-- `close` meets its contract: the tests in document 01's order. Assumes nothing.
+use mathlib.Core.Path.{_≡_, sym, ap, _∙_}
+use mathlib.Core.Bool.{Bool, not, cond}
+use mathlib.Core.List.{List}
+use borrow.Author.Needs.{needs}
+use lib.ListN.{drop}
+use Rattle.codes.specs.Refusals.{Refusal, number}
+use Rattle.codes.proofs.Refused.{numbered}
+use Rattle.slot.specs.Tables.{view}
+use Rattle.bench.specs.BenchCalls.{close-refusals}
+use Rattle.bench.specs.Held.{code-refusals}
+use Rattle.bench.proofs.Accepted.{refused-first, passed-first, Code, found-code}
+use Rattle.bench.proofs.Opened.{open-in-gains}
+use Rattle.bench.proofs.refusals.close.Statement.{statement}
+use Rattle.bench.proofs.refusals.close.Tie as tie
+
+abbrev refusals : tie.Start → List Refusal
+refusals c = let s = c .args in close-refusals (view (s .t1)) (s .q) (s .k)
+
+code-requires : tie.Need-code-requires
+code-requires c κs = search needs
+
+returns : tie.Need-returns
+returns c =
+    let s = c .before .before in
+    refused-first (code-refusals (s .args .q) (s .args .k)) (c .before .code .ensures) (drop 2 (refusals s)) (c .if1 .taken)
+
+-- 3 and 4 have passed
+code : (c : tie.Else1) → let s = c .before .before .args in Code (s .q) (s .k)
+code c = let s = c .before .before .args in found-code (s .q) (s .k) (c .before .code .ensures) (c .if1 .left)
+
+is-open-requires : tie.Need-is-open-requires
+is-open-requires c κs = let h = code (c .before .before) in (h .below, h .small)
+
+-- the last test
+last : (c : tie.After-is-open) → number (refusals (c .before .before .before .before .before)) ≡ cond (not (c .is-open .result)) 7 0
+unfolding numbered
+last c =
+    let d = c .before .before .before in
+    let s = d .before .before in
+    passed-first (code-refusals (s .args .q) (s .args .k)) (d .before .code .ensures) (drop 2 (refusals s)) tt (d .if1 .left)
+    ∙ rw (open-in-gains (s .args .t1) (s .args .q) (s .args .k) (code d .listed), c .is-open .ensures)
+
+returns-2 : tie.Need-returns-2
+returns-2 c = sym (last (c .before) ∙ ap (λ (t : Bool). cond t 7 0) (c .if2 .taken))
+
+returns-3 : tie.Need-returns-3
+returns-3 c = sym (last (c .before) ∙ ap (λ (t : Bool). cond t 7 0) (c .if2 .left))
+
+pub close-spec : {M : Type 1} → statement M
+close-spec = tie.close (tie.spec code-requires returns is-open-requires returns-2 returns-3)

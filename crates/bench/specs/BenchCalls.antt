@@ -1,0 +1,160 @@
+-- Document 01, "Bench calls". Each call is its refusals, in the document's order, over the document's own settings, then its change.
+-- Load plan is not here yet.
+use Prim.Native.Nat.{ℕ, _+_, _-_, min}
+use mathlib.Core.List.{List, [], _∷_}
+use mathlib.Core.Bool.{Bool, not, _&&_, _||_, cond}
+use lib.Dec.{eqb, leb, ltb}
+use lib.ListN.{length, getD, replicate}
+use Rattle.complex.specs.Buffers.{Values, in-buffers}
+use Rattle.codes.specs.declared.CellParameter.{CellParameter}
+use Rattle.codes.specs.Range.{any}
+use Rattle.codes.specs.Refusals.{Answer, refused, gives, Refusal, _if_, _otherwise_}
+use Rattle.codes.specs.Tree.{among, is-spreading-factor, related}
+use Rattle.codes.specs.Allocation.{one-or-two, is-frame-and-half}
+use Rattle.slot.specs.declared.Settings.{Settings}
+use Rattle.slot.specs.Setup.{Setup, is-open}
+use Rattle.slot.specs.Slot.{slot-length, bit-count, chip}
+use Rattle.slot.specs.Tables.{view}
+use Rattle.bench.specs.declared.Bench.{Bench}
+use Rattle.bench.specs.declared.CallAnswer.{CallAnswer}
+use Rattle.bench.specs.declared.CallAnswer.the-variants.{Accepted, Refused}
+use Rattle.bench.specs.declared.DrawAnswer.{DrawAnswer}
+use Rattle.bench.specs.declared.DrawAnswer.the-variants.{Drew, Refused as NotDrawn}
+use Rattle.bench.specs.Changes.{with-gain, with-bits, with-sync, no-sync, closed, with-settings}
+
+-- "the air: no slot, or a copy of the settings with a position": the copy is `sending`, and counts while `running` is not 0
+abbrev pub under-way : Bench → Bool
+under-way b = not (eqb (b .running) 0)
+
+-- Fresh: parameter 0, type 1, nothing open, no sync, no slot.
+abbrev pub fresh-settings : Settings
+fresh-settings = closed (record { 0 = 0 }) 1 (replicate 2208 0)
+
+abbrev pub fresh : Bench
+fresh = record { settings = fresh-settings; running = 0; sending = fresh-settings; position = 0 }
+
+-- what a call leaves where it finds b: "bench and buffers stay" after a refusal
+abbrev pub left-by : Answer Bench → Bench → Bench
+left-by (refused n) b = b
+left-by (gives new) b = new
+
+-- Set cell (parameter, type) closes every code and clears sync. Refuses 1 parameter above 127; 2 type not 1, 2, 3.
+abbrev pub set-cell-refusals : ℕ → ℕ → List Refusal
+set-cell-refusals p t = 1 if leb 128 p ∷ 2 if not (among t (1 ∷ 2 ∷ 3 ∷ [])) ∷ []
+
+abbrev pub set-cell-call : Bench → CellParameter → ℕ → Answer Bench
+set-cell-call b p t = set-cell-refusals (p .0) t otherwise with-settings b (closed p t (b .settings .pairs))
+
+-- "gain not 1 to 4095"
+abbrev pub bad-gain : ℕ → Bool
+bad-gain g = not (leb 1 g && leb g 4095)
+
+-- "related to an open code"
+abbrev pub some-code : (ℕ → ℕ → Bool) → Bool
+some-code f = any 1 (f 1) || any 2 (f 2) || any 4 (f 4) || any 8 (f 8) || any 16 (f 16)
+
+abbrev pub related-to-open : Setup → ℕ → ℕ → Bool
+related-to-open s Q k = some-code (λ Q′ k′. is-open s Q′ k′ && related Q′ k′ Q k)
+
+-- Open (Q, k, gain) gives bits all 0. Refuses 3 bad Q; 4 k not below Q; 5 gain not 1 to 4095; 6 related to an open code.
+abbrev pub open-refusals : Setup → ℕ → ℕ → ℕ → List Refusal
+open-refusals s Q k g = 3 if not (is-spreading-factor Q) ∷ 4 if leb Q k ∷ 5 if bad-gain g ∷ 6 if related-to-open s Q k ∷ []
+
+abbrev pub open-call : Bench → ℕ → ℕ → ℕ → Answer Bench
+open-call b Q k g =
+    open-refusals (view (b .settings)) Q k g otherwise with-settings b (with-bits (with-gain (b .settings) Q k g) Q k [])
+
+-- Close (Q, k). Refuses 3; 4; 7 code not open.
+abbrev pub close-refusals : Setup → ℕ → ℕ → List Refusal
+close-refusals s Q k = 3 if not (is-spreading-factor Q) ∷ 4 if leb Q k ∷ 7 if not (is-open s Q k) ∷ []
+
+abbrev pub close-call : Bench → ℕ → ℕ → Answer Bench
+close-call b Q k = close-refusals (view (b .settings)) Q k otherwise with-settings b (with-gain (b .settings) Q k 0)
+
+-- Set gain (Q, k, gain) keeps the bits. Refuses 3; 4; 5; 7.
+abbrev pub set-gain-refusals : Setup → ℕ → ℕ → ℕ → List Refusal
+set-gain-refusals s Q k g = 3 if not (is-spreading-factor Q) ∷ 4 if leb Q k ∷ 5 if bad-gain g ∷ 7 if not (is-open s Q k) ∷ []
+
+abbrev pub set-gain-call : Bench → ℕ → ℕ → ℕ → Answer Bench
+set-gain-call b Q k g = set-gain-refusals (view (b .settings)) Q k g otherwise with-settings b (with-gain (b .settings) Q k g)
+
+-- "a byte above 1"
+abbrev pub has-byte-above-1 : List ℕ → Bool
+has-byte-above-1 bits = any (length bits) (λ i. ltb 1 (getD bits i 0))
+
+-- Load bits (Q, k, one byte a bit). Refuses 3; 4; 7; 8 count not as above; 9 a byte above 1.
+abbrev pub load-bits-refusals : Setup → ℕ → ℕ → List ℕ → List Refusal
+load-bits-refusals s Q k bits =
+    3 if not (is-spreading-factor Q) ∷
+    4 if leb Q k ∷
+    7 if not (is-open s Q k) ∷
+    8 if not (eqb (length bits) (bit-count (s .type) Q)) ∷
+    9 if has-byte-above-1 bits ∷ []
+
+abbrev pub load-bits-call : Bench → ℕ → ℕ → List ℕ → Answer Bench
+load-bits-call b Q k bits =
+    load-bits-refusals (view (b .settings)) Q k bits otherwise with-settings b (with-bits (b .settings) Q k bits)
+
+-- Set sync (case, frame, half, gP, gS); the group is the cell's. Refuses 13 type not 1; 14 case not 1 or 2; 15 frame not 1 or 2, half above 1,
+-- or half 1 in case 1; 5 either gain.
+abbrev pub set-sync-refusals : Setup → ℕ → ℕ → ℕ → ℕ → ℕ → List Refusal
+set-sync-refusals s case frame half gP gS =
+    13 if not (eqb (s .type) 1) ∷
+    14 if not (one-or-two case) ∷
+    15 if not (is-frame-and-half case frame half) ∷
+    5 if (bad-gain gP || bad-gain gS) ∷ []
+
+abbrev pub set-sync-call : Bench → ℕ → ℕ → ℕ → ℕ → ℕ → Answer Bench
+set-sync-call b case frame half gP gS =
+    set-sync-refusals (view (b .settings)) case frame half gP gS otherwise
+    with-settings b (with-sync (b .settings) (record { on = 1; case = case; frame = frame; half = half; gp = gP; gs = gS }))
+
+-- Clear sync refuses nothing.
+abbrev pub clear-sync-call : Bench → Answer Bench
+clear-sync-call b = [] otherwise with-settings b (with-sync (b .settings) no-sync)
+
+-- Start copies settings to the air, position 0. Refuses 10 slot under way.
+abbrev pub start-call : Bench → Answer Bench
+start-call b =
+    10 if under-way b ∷ [] otherwise
+    (record { settings = b .settings; running = 1; sending = b .settings; position = 0 })
+
+-- Draw (re buffer, im buffer) writes the next chips, as many as the smaller of buffer length and chips left. It returns that count; after the
+-- last chip there is no slot. Refuses 11 no slot under way; 12 buffer lengths differ.
+pub record Draw : Type 0 where
+  pub count : ℕ
+  pub chips : Values
+  pub bench : Bench
+
+abbrev pub draw-refusals : Bench → ℕ → ℕ → List Refusal
+draw-refusals b n n′ = 11 if not (under-way b) ∷ 12 if not (eqb n n′) ∷ []
+
+-- m chips are out
+abbrev pub moved-on : Bench → ℕ → Bench
+moved-on b m =
+    record {
+      settings = b .settings;
+      running = cond (leb slot-length (b .position + m)) 0 (b .running);
+      sending = b .sending;
+      position = b .position + m;
+    }
+
+abbrev pub draw-call : Bench → ℕ → ℕ → Answer Draw
+draw-call b n n′ =
+    let m = min n (slot-length - b .position) in
+    draw-refusals b n n′ otherwise
+    (record { count = m; chips = in-buffers m (λ i. chip (view (b .sending)) (b .position + i)); bench = moved-on b m })
+
+-- ---- document 01's number and values for each case of the answers
+abbrev pub told-call : CallAnswer → Answer (Unit {0})
+told-call Accepted = gives tt
+told-call (Refused n) = refused n
+
+abbrev pub told-draw : DrawAnswer → Answer ℕ
+told-draw (Drew m) = gives m
+told-draw (NotDrawn n) = refused n
+
+-- of a draw its count
+abbrev pub counted : Answer Draw → Answer ℕ
+counted (refused n) = refused n
+counted (gives d) = gives (d .count)

@@ -1,0 +1,320 @@
+// The bench of document 01: settings and the slot under way. It goes by value: a call takes the bench and hands back its answer and the
+// new bench. Each call takes any numbers and any bench, refuses by document 01's number and then hands back the bench that it was given.
+ghost use mathlib.Core.Path.{_≡_};
+ghost use lib.ListN.{length};
+ghost use Rattle.complex.specs.Buffers.{written};
+ghost use Rattle.codes.specs.Refusals.{after, gives, outcome, refused};
+ghost use Rattle.codes.specs.Tree.{is-spreading-factor};
+ghost use mathlib.Core.Bool.{true, cond};
+ghost use mathlib.Core.List.{[]};
+ghost use Prim.Native.Nat.{_<_, _≤_};
+ghost use lib.Dec.{eqb, leb};
+ghost use Rattle.bench.specs.Changes.{no-sync, with-bits, with-gain, with-settings};
+ghost use Rattle.bench.specs.BenchCalls.{close-call, clear-sync-call, counted, draw-call, fresh, fresh-settings, left-by, load-bits-call, open-call, set-cell-call, set-gain-call, set-sync-call, start-call, told-call, told-draw};
+use codes::CellParameter;
+use slot::Settings;
+use slot::Sync;
+use slot::field;
+
+mod refusals;
+mod tables;
+
+// `settings` are what the calls change. While `running` is not 0 a slot is under way: `sending` is the copy of the settings made at its
+// start, and `position` is how many of its chips are out.
+#[repr(C)]
+pub struct Bench {
+    pub settings: Settings,
+    pub running: u8,
+    pub sending: Settings,
+    pub position: usize,
+}
+
+pub enum CallAnswer {
+    Accepted,
+    Refused(u32),
+}
+
+pub struct Answered {
+    pub answer: CallAnswer,
+    pub bench: Bench,
+}
+
+// Of an accepted draw, how many chips it wrote.
+pub enum DrawAnswer {
+    Drew(usize),
+    Refused(u32),
+}
+
+pub struct Drawn {
+    pub answer: DrawAnswer,
+    pub bench: Bench,
+}
+
+// No sync burst.
+fn no_sync() -> Sync
+    ensures { λ r. ⌜ r ≡ no-sync ⌝ }
+{
+    Sync {
+        on: 0,
+        case: 0,
+        frame: 0,
+        half: 0,
+        gp: 0,
+        gs: 0,
+    }
+}
+
+// `running`, or 0 once the last chip of a slot is out.
+fn running_at(running: u8, position: usize) -> u8
+    ensures { λ r. ⌜ r ≡ cond (leb 2560 position) 0 running ⌝ }
+{
+    if 2560 <= position { 0 } else { running }
+}
+
+// Parameter 0, type 1, nothing open, no sync.
+fn fresh_settings() -> Settings
+    ensures { λ r. ⌜ r ≡ fresh-settings ⌝ }
+{
+    let none = no_sync();
+    Settings {
+        cell: CellParameter(0),
+        kind: 1,
+        gains: [0u16; 31],
+        pairs: [0u8; 2208],
+        sync: none,
+    }
+}
+
+// The answer of a call whose refusal tests found this number.
+fn answer(number: u32) -> CallAnswer
+    ensures { λ r. ⌜ told-call r ≡ cond (eqb number 0) (gives tt) (refused number) ⌝ }
+{
+    match number {
+        0 => CallAnswer::Accepted,
+        _ => CallAnswer::Refused(number),
+    }
+}
+
+impl Bench {
+    // Parameter 0, type 1, nothing open, no sync, no slot.
+    pub fn fresh() -> Bench
+        ensures { λ r. ⌜ r ≡ fresh ⌝ }
+    {
+        let s = fresh_settings();
+        Bench {
+            settings: s,
+            running: 0,
+            sending: s,
+            position: 0,
+        }
+    }
+
+    // Closes every code and clears sync. Refuses 1 parameter above 127; 2 type not 1, 2, 3.
+    pub fn set_cell(mut self, cell: CellParameter, kind: u32) -> Answered
+        ensures answer { λ r. ⌜ told-call (r .answer) ≡ outcome (set-cell-call self cell kind) ⌝ }
+        ensures bench { λ r. ⌜ r .bench ≡ left-by (set-cell-call self cell kind) self ⌝ }
+    {
+        let number = refusals::set_cell(cell, kind);
+        if number != 0 {
+            return Answered {
+                answer: CallAnswer::Refused(number),
+                bench: self,
+            };
+        }
+        let silent = no_sync();
+        let mut s = self.settings;
+        s.cell = cell;
+        s.kind = kind;
+        s.gains = [0u16; 31];
+        s.sync = silent;
+        self.settings = s;
+        Answered {
+            answer: CallAnswer::Accepted,
+            bench: self,
+        }
+    }
+
+    // Code (q, k) with this gain, which is 0 where it is closed, and with bits all 0 where they are cleared.
+    fn with_code(mut self, q: u32, k: u32, gain: u32, cleared: bool) -> Bench
+        requires { ⌜ (is-spreading-factor q ≡ true) × (k < q) × (gain ≤ 4095) ⌝ }
+        ensures { λ r. ⌜ r ≡ with-settings self (cond cleared (with-bits (with-gain (self .settings) q k gain) q k []) (with-gain (self .settings) q k gain)) ⌝ }
+    {
+        let mut s = self.settings;
+        let node = tables::node(q, k);
+        s.gains[node] = gain as u16;
+        if cleared {
+            tables::set_bits(&mut s.pairs, q, k, b"");
+        }
+        self.settings = s;
+        self
+    }
+
+    // Opens code (q, k) with bits all 0. Refuses 3 bad q; 4 k not below q; 5 gain not 1 to 4095; 6 related to an open code.
+    pub fn open(mut self, q: u32, k: u32, gain: u32) -> Answered
+        ensures answer { λ r. ⌜ told-call (r .answer) ≡ outcome (open-call self q k gain) ⌝ }
+        ensures bench { λ r. ⌜ r .bench ≡ left-by (open-call self q k gain) self ⌝ }
+    {
+        let number = refusals::open(self.settings, q, k, gain);
+        if number != 0 {
+            return Answered {
+                answer: CallAnswer::Refused(number),
+                bench: self,
+            };
+        }
+        Answered {
+            answer: CallAnswer::Accepted,
+            bench: self.with_code(q, k, gain, true),
+        }
+    }
+
+    // Refuses 3; 4; 7 code not open.
+    pub fn close(mut self, q: u32, k: u32) -> Answered
+        ensures answer { λ r. ⌜ told-call (r .answer) ≡ outcome (close-call self q k) ⌝ }
+        ensures bench { λ r. ⌜ r .bench ≡ left-by (close-call self q k) self ⌝ }
+    {
+        let number = refusals::close(self.settings, q, k);
+        if number != 0 {
+            return Answered {
+                answer: CallAnswer::Refused(number),
+                bench: self,
+            };
+        }
+        Answered {
+            answer: CallAnswer::Accepted,
+            bench: self.with_code(q, k, 0, false),
+        }
+    }
+
+    // Keeps the bits. Refuses 3; 4; 5; 7.
+    pub fn set_gain(mut self, q: u32, k: u32, gain: u32) -> Answered
+        ensures answer { λ r. ⌜ told-call (r .answer) ≡ outcome (set-gain-call self q k gain) ⌝ }
+        ensures bench { λ r. ⌜ r .bench ≡ left-by (set-gain-call self q k gain) self ⌝ }
+    {
+        let number = refusals::set_gain(self.settings, q, k, gain);
+        if number != 0 {
+            return Answered {
+                answer: CallAnswer::Refused(number),
+                bench: self,
+            };
+        }
+        Answered {
+            answer: CallAnswer::Accepted,
+            bench: self.with_code(q, k, gain, false),
+        }
+    }
+
+    // One byte a bit. Refuses 3; 4; 7; 8 count not 2(F1+F2)/q, F1 and F2 being the field lengths; 9 a byte above 1.
+    pub fn load_bits(mut self, q: u32, k: u32, bits: &[u8]) -> Answered
+        ensures answer { λ r. ⌜ told-call (r .answer) ≡ outcome (load-bits-call self q k (now (bits .entry))) ⌝ }
+        ensures bench { λ r. ⌜ r .bench ≡ left-by (load-bits-call self q k (now (bits .entry))) self ⌝ }
+    {
+        let mut s = self.settings;
+        let number = refusals::load_bits(s, q, k, bits);
+        // Nothing is written before every test has passed.
+        if number == 0 {
+            tables::set_bits(&mut s.pairs, q, k, bits);
+        }
+        self.settings = s;
+        Answered {
+            answer: answer(number),
+            bench: self,
+        }
+    }
+
+    // The group is the cell's. Refuses 13 type not 1; 14 case not 1 or 2; 15 frame not 1 or 2, half above 1, or half 1 in case 1; 5 either gain.
+    pub fn set_sync(mut self, case: u32, frame: u32, half: u32, gp: u32, gs: u32) -> Answered
+        ensures answer { λ r. ⌜ told-call (r .answer) ≡ outcome (set-sync-call self case frame half gp gs) ⌝ }
+        ensures bench { λ r. ⌜ r .bench ≡ left-by (set-sync-call self case frame half gp gs) self ⌝ }
+    {
+        let mut s = self.settings;
+        let number = refusals::set_sync(s, case, frame, half, gp, gs);
+        if number != 0 {
+            return Answered {
+                answer: CallAnswer::Refused(number),
+                bench: self,
+            };
+        }
+        let y = Sync {
+            on: 1,
+            case: case,
+            frame: frame,
+            half: half,
+            gp: gp as u16,
+            gs: gs as u16,
+        };
+        s.sync = y;
+        self.settings = s;
+        Answered {
+            answer: CallAnswer::Accepted,
+            bench: self,
+        }
+    }
+
+    // Refuses nothing.
+    pub fn clear_sync(mut self) -> Answered
+        ensures answer { λ r. ⌜ told-call (r .answer) ≡ outcome (clear-sync-call self) ⌝ }
+        ensures bench { λ r. ⌜ r .bench ≡ left-by (clear-sync-call self) self ⌝ }
+    {
+        let none = no_sync();
+        let mut quiet = self.settings;
+        quiet.sync = none;
+        self.settings = quiet;
+        Answered {
+            answer: CallAnswer::Accepted,
+            bench: self,
+        }
+    }
+
+    // Copies the settings: the slot that starts keeps them, whatever calls follow. Refuses 10 slot under way.
+    pub fn start(mut self) -> Answered
+        ensures answer { λ r. ⌜ told-call (r .answer) ≡ outcome (start-call self) ⌝ }
+        ensures bench { λ r. ⌜ r .bench ≡ left-by (start-call self) self ⌝ }
+    {
+        if self.running != 0 {
+            return Answered {
+                answer: CallAnswer::Refused(10),
+                bench: self,
+            };
+        }
+        let s = self.settings;
+        self.sending = s;
+        self.running = 1;
+        self.position = 0;
+        Answered {
+            answer: CallAnswer::Accepted,
+            bench: self,
+        }
+    }
+
+    // Writes the next chips of the slot under way, as many as the smaller of buffer length and chips left, and answers that count; later
+    // entries stay. Refuses 11 no slot under way; 12 buffer lengths differ.
+    pub fn draw(mut self, re: &mut [i32], im: &mut [i32]) -> Drawn
+        ensures answer { λ r. ⌜ told-draw (r .answer) ≡ counted (draw-call self (length (now (re .entry))) (length (now (im .entry)))) ⌝ }
+        ensures bench { λ r. ⌜ r .bench ≡ after (draw-call self (length (now (re .entry))) (length (now (im .entry)))) self (λ d. d .bench) ⌝ }
+        ensures real { λ r. ⌜ now (re .exit) ≡ after (draw-call self (length (now (re .entry))) (length (now (im .entry)))) (now (re .entry)) (λ d. written (d .chips .re) (now (re .entry))) ⌝ }
+        ensures imaginary { λ r. ⌜ now (im .exit) ≡ after (draw-call self (length (now (re .entry))) (length (now (im .entry)))) (now (im .entry)) (λ d. written (d .chips .im) (now (im .entry))) ⌝ }
+    {
+        if self.running == 0 {
+            return Drawn {
+                answer: DrawAnswer::Refused(11),
+                bench: self,
+            };
+        }
+        if re.len() != im.len() {
+            return Drawn {
+                answer: DrawAnswer::Refused(12),
+                bench: self,
+            };
+        }
+        let s = self.sending;
+        let from = self.position;
+        let n = field::smaller(re.len(), field::past(2560, from));
+        field::write(s, from, &mut re[..n], &mut im[..n]);
+        self.position = from + n;
+        self.running = running_at(self.running, from + n);
+        Drawn {
+            answer: DrawAnswer::Drew(n),
+            bench: self,
+        }
+    }
+}

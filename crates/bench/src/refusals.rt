@@ -1,0 +1,194 @@
+// The refusals of the bench's calls: a call's number from document 01, or 0.
+ghost use mathlib.Core.Path.{_≡_};
+ghost use mathlib.Core.Bool.{not};
+ghost use mathlib.Core.List.{[], _∷_};
+ghost use Prim.Native.Nat.{_<_, _≤_};
+ghost use lib.Dec.{leb};
+ghost use Rattle.codes.specs.Range.{any};
+ghost use Rattle.codes.specs.Refusals.{number, _if_};
+ghost use Rattle.codes.specs.Tree.{is-spreading-factor};
+ghost use Rattle.slot.specs.Slot.{bit-count};
+ghost use Rattle.slot.specs.Tables.{view};
+ghost use Rattle.bench.specs.BenchCalls.{bad-gain, close-refusals, has-byte-above-1, load-bits-refusals, open-refusals, set-cell-refusals, set-gain-refusals, set-sync-refusals, some-code};
+ghost use Rattle.bench.specs.Held.{clashes, code-refusals, open-at};
+use crate::tables::node;
+use codes::CellParameter;
+use codes::burst;
+use codes::tree;
+use slot::Settings;
+use slot::parts;
+
+pub fn set_cell(cell: CellParameter, kind: u32) -> u32
+    ensures { λ r. ⌜ r ≡ number (set-cell-refusals (cell .0) kind) ⌝ }
+{
+    if 128 <= cell.0 {
+        return 1;
+    }
+    match kind {
+        1 => 0,
+        2 => 0,
+        3 => 0,
+        _ => 2,
+    }
+}
+
+// 3 or 4 where (q, k) is no code, else 0.
+fn code(q: u32, k: u32) -> u32
+    ensures { λ r. ⌜ r ≡ number (code-refusals q k) ⌝ }
+{
+    if tree::width(q) == 0 {
+        return 3;
+    }
+    if q <= k {
+        return 4;
+    }
+    0
+}
+
+// Whether a gain is not 1 to 4095. It is tested as it comes, before it is narrowed.
+fn is_bad_gain(gain: u32) -> bool
+    ensures { λ r. ⌜ r ≡ bad-gain gain ⌝ }
+{
+    gain < 1 || 4095 < gain
+}
+
+// Whether code (q, k) is open.
+fn is_open(gains: &[u16; 31], q: u32, k: u32) -> bool
+    requires { ⌜ (k < q) × (q ≤ 16) ⌝ }
+    ensures { λ r. ⌜ r ≡ open-at (now (gains .entry)) q k ⌝ }
+{
+    gains[node(q, k)] != 0
+}
+
+// Whether code (q2, k2) is open and related to (q, k).
+fn clashes(gains: &[u16; 31], q: u32, k: u32, q2: u32, k2: u32) -> bool
+    requires { ⌜ (k2 < q2) × (q2 ≤ 16) ⌝ }
+    ensures { λ r. ⌜ r ≡ clashes (now (gains .entry)) q k q2 k2 ⌝ }
+{
+    is_open(gains, q2, k2) && tree::is_related(q2, k2, q, k)
+}
+
+// Whether an open code of factor q2 is related to (q, k).
+fn any_clash(gains: &[u16; 31], q: u32, k: u32, q2: u32) -> bool
+    requires { ⌜ q2 ≤ 16 ⌝ }
+    ensures { λ r. ⌜ r ≡ any q2 (clashes (now (gains .entry)) q k q2) ⌝ }
+{
+    let mut found = false;
+    for k2 in 0..q2 {
+        found = clashes(gains, q, k, q2, k2) || found;
+    }
+    found
+}
+
+// Whether an open code is related to (q, k).
+fn is_related_to_open(gains: &[u16; 31], q: u32, k: u32) -> bool
+    ensures { λ r. ⌜ r ≡ some-code (clashes (now (gains .entry)) q k) ⌝ }
+{
+    any_clash(gains, q, k, 1)
+        || any_clash(gains, q, k, 2)
+        || any_clash(gains, q, k, 4)
+        || any_clash(gains, q, k, 8)
+        || any_clash(gains, q, k, 16)
+}
+
+pub fn open(s: Settings, q: u32, k: u32, gain: u32) -> u32
+    ensures { λ r. ⌜ r ≡ number (open-refusals (view s) q k gain) ⌝ }
+{
+    let number = code(q, k);
+    if number != 0 {
+        return number;
+    }
+    if is_bad_gain(gain) {
+        return 5;
+    }
+    if is_related_to_open(&s.gains, q, k) {
+        return 6;
+    }
+    0
+}
+
+pub fn close(s: Settings, q: u32, k: u32) -> u32
+    ensures { λ r. ⌜ r ≡ number (close-refusals (view s) q k) ⌝ }
+{
+    let number = code(q, k);
+    if number != 0 {
+        return number;
+    }
+    if !is_open(&s.gains, q, k) {
+        return 7;
+    }
+    0
+}
+
+pub fn set_gain(s: Settings, q: u32, k: u32, gain: u32) -> u32
+    ensures { λ r. ⌜ r ≡ number (set-gain-refusals (view s) q k gain) ⌝ }
+{
+    let number = code(q, k);
+    if number != 0 {
+        return number;
+    }
+    if is_bad_gain(gain) {
+        return 5;
+    }
+    if !is_open(&s.gains, q, k) {
+        return 7;
+    }
+    0
+}
+
+// How many bits a code of factor q has in a burst type.
+fn bit_count(kind: u32, q: u32) -> usize
+    requires { ⌜ 0 < q ⌝ }
+    ensures { λ r. ⌜ r ≡ bit-count kind q ⌝ }
+{
+    let p = parts::parts_of(kind);
+    2 * (p.field1 + p.field2) / q as usize
+}
+
+// Whether a byte is above 1. All are looked at, for that is faster than to stop at the first.
+fn has_byte_above_1(bits: &[u8]) -> bool
+    ensures { λ r. ⌜ r ≡ has-byte-above-1 (now (bits .entry)) ⌝ }
+{
+    let mut found = false;
+    for i in 0..bits.len() {
+        found = 1 < bits[i] || found;
+    }
+    found
+}
+
+pub fn load_bits(s: Settings, q: u32, k: u32, bits: &[u8]) -> u32
+    ensures { λ r. ⌜ r ≡ number (load-bits-refusals (view s) q k (now (bits .entry))) ⌝ }
+{
+    let number = close(s, q, k);
+    if number != 0 {
+        return number;
+    }
+    if bits.len() != bit_count(s.kind, q) {
+        return 8;
+    }
+    if has_byte_above_1(bits) {
+        return 9;
+    }
+    0
+}
+
+pub fn set_sync(s: Settings, case: u32, frame: u32, half: u32, gp: u32, gs: u32) -> u32
+    ensures { λ r. ⌜ r ≡ number (set-sync-refusals (view s) case frame half gp gs) ⌝ }
+{
+    if s.kind != 1 {
+        return 13;
+    }
+    if !burst::one_or_two(case) {
+        return 14;
+    }
+    if !burst::is_frame_and_half(case, frame, half) {
+        return 15;
+    }
+    if is_bad_gain(gp) {
+        return 5;
+    }
+    if is_bad_gain(gs) {
+        return 5;
+    }
+    0
+}

@@ -1,0 +1,12 @@
+-- `number` is safe, and ends: with each turn fewer bytes are left. Assumes nothing.
+use Prim.Native.Nat.{_-_}
+use borrow.Author.Needs.{needs}
+use Rattle.bench_values.proofs.words.number.Statement.{statement}
+use Rattle.bench_values.proofs.words.number.Tie as tie
+
+pub number-spec : {M : Type 1} → statement M
+number-spec =
+    tie.close
+    (tie.spec (λ _ _ _ _ _ _ _ _ _. Unit {0}) (λ _ _ _ _ _ i-end _ _ i. i-end - i) (λ c. search needs)
+    (λ c κs. search needs) (λ c κs. search needs) (λ c κs. search needs) (λ c. search needs)
+    (λ c. search needs) (λ c. search needs) (λ c. search needs))

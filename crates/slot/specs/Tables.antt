@@ -1,0 +1,45 @@
+-- How the bench's struct holds document 01's settings. `view` gives them back: no definition of the slot or of a refusal knows the tables.
+use Prim.Native.Nat.{ℕ, zero, suc, _+_, _*_, _-_, _/_, _%_}
+use mathlib.Core.List.{List}
+use mathlib.Core.Bool.{_||_, cond}
+use mathlib.Core.Option.{Option, none, some}
+use lib.Dec.{eqb, leb}
+use lib.ListN.{getD}
+use Rattle.complex.specs.Buffers.{listed}
+use Rattle.codes.specs.Tree.{is-code, width}
+use Rattle.slot.specs.declared.Settings.{Settings}
+use Rattle.slot.specs.declared.Sync.{Sync}
+use Rattle.slot.specs.Setup.{Channel, SyncSetup, Setup}
+use Rattle.slot.specs.Slot.{bit-count}
+
+-- the gain of code (Q, k) stands at its node of the tree, 0 where it is not open
+abbrev pub node : ℕ → ℕ → ℕ
+node Q k = Q - 1 + k
+
+-- Pairs of bits stand block by block of 16 chips, both fields in a row. In a block code (Q, k) owns 16/Q entries from k·16/Q on,
+-- so unrelated codes never overlap: the entry of pair n of code (Q, k)
+abbrev pub place : ℕ → ℕ → ℕ → ℕ
+place Q k n = 16 * (n / width Q) + k * width Q + n % width Q
+
+-- bit i of code (Q, k): an entry is the pair's number, its first bit written first
+abbrev pub held-bit : List ℕ → ℕ → ℕ → ℕ → ℕ
+held-bit pairs Q k i = let n = getD pairs (place Q k (i / 2)) 0 in cond (eqb (i % 2) 0) (n / 2) (n % 2)
+
+abbrev pub held-channel : ℕ → List ℕ → Option Channel
+held-channel zero bits = none
+held-channel (suc g) bits = some (record { gain = suc g; bits = bits })
+
+-- a parameter above 127 has no code group, so no burst
+unfoldable pub view-sync : ℕ → Sync → Option SyncSetup
+view-sync p y =
+    cond (eqb (y .on) 0 || leb 128 p) none
+    (some (record { case = y .case; frame = y .frame; half = y .half; gP = y .gp; gS = y .gs }))
+
+unfoldable pub view-channel : Settings → ℕ → ℕ → Option Channel
+view-channel s Q k =
+    cond (is-code Q k)
+    (held-channel (getD (s .gains) (node Q k) 0) (listed (bit-count (s .kind) Q) (held-bit (s .pairs) Q k)))
+    none
+
+unfoldable pub view : Settings → Setup
+view s = record { cell = s .cell .0; type = s .kind; channel = view-channel s; sync = view-sync (s .cell .0) (s .sync) }
