@@ -1,5 +1,5 @@
--- Document 01, "Bench calls". Each call is its refusals, in the document's order, over the document's own settings, then its change.
--- Load plan is not here yet.
+-- Document 01, "Bench calls". Each call is its refusals, in the document's order, then its change. A refusal that asks for settings speaks of the
+-- document's own (`Setup`, by `view`). Load plan is not here yet.
 use Prim.Native.Nat.{ℕ, _+_, _-_, min}
 use mathlib.Core.List.{List, [], _∷_}
 use mathlib.Core.Bool.{Bool, not, _&&_, _||_, cond}
@@ -8,7 +8,7 @@ use lib.ListN.{length, getD, replicate}
 use Rattle.complex.specs.Buffers.{Values, in-buffers}
 use Rattle.codes.specs.declared.CellParameter.{CellParameter}
 use Rattle.codes.specs.Range.{any}
-use Rattle.codes.specs.Refusals.{Answer, refused, gives, Refusal, _if_, _otherwise_}
+use Rattle.codes.specs.Refusals.{Answer, refused, gives, Refusal, _if_, _otherwise_, after}
 use Rattle.codes.specs.Tree.{among, is-spreading-factor, related}
 use Rattle.codes.specs.Allocation.{one-or-two, is-frame-and-half}
 use Rattle.slot.specs.declared.Settings.{Settings}
@@ -35,8 +35,7 @@ fresh = record { settings = fresh-settings; running = 0; sending = fresh-setting
 
 -- what a call leaves where it finds b: "bench and buffers stay" after a refusal
 abbrev pub left-by : Answer Bench → Bench → Bench
-left-by (refused n) b = b
-left-by (gives new) b = new
+left-by r b = after r b (λ new. new)
 
 -- Set cell (parameter, type) closes every code and clears sync. Refuses 1 parameter above 127; 2 type not 1, 2, 3.
 abbrev pub set-cell-refusals : ℕ → ℕ → List Refusal
@@ -49,10 +48,11 @@ set-cell-call b p t = set-cell-refusals (p .0) t otherwise with-settings b (clos
 abbrev pub bad-gain : ℕ → Bool
 bad-gain g = not (leb 1 g && leb g 4095)
 
--- "related to an open code"
+-- a test passes at some code
 abbrev pub some-code : (ℕ → ℕ → Bool) → Bool
 some-code f = any 1 (f 1) || any 2 (f 2) || any 4 (f 4) || any 8 (f 8) || any 16 (f 16)
 
+-- "related to an open code"
 abbrev pub related-to-open : Setup → ℕ → ℕ → Bool
 related-to-open s Q k = some-code (λ Q′ k′. is-open s Q′ k′ && related Q′ k′ Q k)
 
@@ -119,8 +119,9 @@ start-call b =
     10 if under-way b ∷ [] otherwise
     (record { settings = b .settings; running = 1; sending = b .settings; position = 0 })
 
--- Draw (re buffer, im buffer) writes the next chips, as many as the smaller of buffer length and chips left. It returns that count; after the
--- last chip there is no slot. Refuses 11 no slot under way; 12 buffer lengths differ.
+-- Draw (re buffer, im buffer) writes the next chips, as many as the smaller of buffer length and chips left. Later entries stay (`written`, in
+-- draw's contract). It returns that count; after the last chip there is no slot. Length 0 returns 0. Refuses 11 no slot under way; 12 buffer
+-- lengths differ.
 pub record Draw : Type 0 where
   pub count : ℕ
   pub chips : Values
@@ -129,7 +130,7 @@ pub record Draw : Type 0 where
 abbrev pub draw-refusals : Bench → ℕ → ℕ → List Refusal
 draw-refusals b n n′ = 11 if not (under-way b) ∷ 12 if not (eqb n n′) ∷ []
 
--- m chips are out
+-- m more chips are out; after the last chip there is no slot
 abbrev pub moved-on : Bench → ℕ → Bench
 moved-on b m =
     record {

@@ -9,8 +9,8 @@ use Rattle.codes.specs.declared.CellParameter.{CellParameter}
 use Rattle.codes.specs.Tree.{width}
 use Rattle.slot.specs.declared.Settings.{Settings}
 use Rattle.slot.specs.declared.Sync.{Sync}
-use Rattle.slot.specs.Slot.{pair}
-use Rattle.slot.specs.Tables.{node}
+use Rattle.modulation.specs.Symbols.{pair}
+use Rattle.modulation.specs.Held.{node}
 use Rattle.bench.specs.declared.Bench.{Bench}
 
 abbrev pub with-gains : Settings → List ℕ → Settings

@@ -1,5 +1,6 @@
 // The bench of document 01: settings and the slot under way. It goes by value: a call takes the bench and hands back its answer and the
-// new bench. Each call takes any numbers and any bench, refuses by document 01's number and then hands back the bench that it was given.
+// new bench. Each call takes any numbers and any bench; where it refuses, it answers document 01's number
+// and hands back the bench that it was given.
 ghost use mathlib.Core.Path.{_≡_};
 ghost use lib.ListN.{length};
 ghost use Rattle.complex.specs.Buffers.{written};
@@ -287,7 +288,7 @@ impl Bench {
     }
 
     // Writes the next chips of the slot under way, as many as the smaller of buffer length and chips left, and answers that count; later
-    // entries stay. Refuses 11 no slot under way; 12 buffer lengths differ.
+    // entries stay, and after the last chip there is no slot. Refuses 11 no slot under way; 12 buffer lengths differ.
     pub fn draw(mut self, re: &mut [i32], im: &mut [i32]) -> Drawn
         ensures answer { λ r. ⌜ told-draw (r .answer) ≡ counted (draw-call self (length (now (re .entry))) (length (now (im .entry)))) ⌝ }
         ensures bench { λ r. ⌜ r .bench ≡ after (draw-call self (length (now (re .entry))) (length (now (im .entry)))) self (λ d. d .bench) ⌝ }

@@ -1,12 +1,9 @@
 // The refusals of the bench's calls: a call's number from document 01, or 0.
 ghost use mathlib.Core.Path.{_≡_};
 ghost use mathlib.Core.Bool.{not};
-ghost use mathlib.Core.List.{[], _∷_};
 ghost use Prim.Native.Nat.{_<_, _≤_};
-ghost use lib.Dec.{leb};
 ghost use Rattle.codes.specs.Range.{any};
 ghost use Rattle.codes.specs.Refusals.{number, _if_};
-ghost use Rattle.codes.specs.Tree.{is-spreading-factor};
 ghost use Rattle.slot.specs.Slot.{bit-count};
 ghost use Rattle.slot.specs.Tables.{view};
 ghost use Rattle.bench.specs.BenchCalls.{bad-gain, close-refusals, has-byte-above-1, load-bits-refusals, open-refusals, set-cell-refusals, set-gain-refusals, set-sync-refusals, some-code};
@@ -145,7 +142,7 @@ fn bit_count(kind: u32, q: u32) -> usize
     2 * (p.field1 + p.field2) / q as usize
 }
 
-// Whether a byte is above 1. All are looked at, for that is faster than to stop at the first.
+// Whether a byte is above 1. All are looked at, which is faster than stopping at the first.
 fn has_byte_above_1(bits: &[u8]) -> bool
     ensures { λ r. ⌜ r ≡ has-byte-above-1 (now (bits .entry)) ⌝ }
 {
@@ -159,6 +156,7 @@ fn has_byte_above_1(bits: &[u8]) -> bool
 pub fn load_bits(s: Settings, q: u32, k: u32, bits: &[u8]) -> u32
     ensures { λ r. ⌜ r ≡ number (load-bits-refusals (view s) q k (now (bits .entry))) ⌝ }
 {
+    // 3, 4 and 7, as close has them.
     let number = close(s, q, k);
     if number != 0 {
         return number;

@@ -4,8 +4,8 @@ ghost use mathlib.Core.Bool.{true, false};
 ghost use Prim.Native.Nat.{_+_, _%_, _<_, _≤_};
 ghost use lib.ListN.{length};
 ghost use Rattle.codes.specs.Tree.{is-spreading-factor};
-ghost use Rattle.slot.specs.Slot.{pair as pair-of};
-ghost use Rattle.slot.specs.Tables.{node as node-of};
+ghost use Rattle.modulation.specs.Symbols.{pair as pair-of};
+ghost use Rattle.modulation.specs.Held.{node as node-of};
 ghost use Rattle.bench.specs.BenchCalls.{has-byte-above-1};
 ghost use Rattle.bench.specs.Changes.{pairs-with};
 ghost use Rattle.bench.specs.Held.{with-part};
@@ -35,7 +35,7 @@ fn put_pairs(pairs: &mut [u8; 2208], at: usize, w: usize, bits: &[u8], n: usize)
     requires { ⌜ (at + w ≤ 2208) × (n + w ≤ 2208) × (has-byte-above-1 (now bits) ≡ false) × (length (now bits) % 2 ≡ 0) ⌝ }
     ensures { λ r. ⌜ now (pairs .exit) ≡ with-part (now (pairs .entry)) at w (λ i. pair-of (now (bits .entry)) (n + i)) ⌝ }
 {
-    // As a slice: of an array behind a reference a proof is not told the length.
+    // As a slice, for a proof is not told the length of an array behind a reference.
     let all = &mut pairs[..];
     for i in 0..w {
         all[at + i] = pair(bits, n + i);

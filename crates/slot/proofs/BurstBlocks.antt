@@ -17,9 +17,9 @@ use Rattle.slot.specs.declared.Sync.{Sync}
 use Rattle.slot.specs.Setup.{SyncSetup}
 use Rattle.slot.specs.Slot.{sync-chip}
 use Rattle.slot.specs.Tables.{view-sync}
-use Rattle.slot.specs.Held.{block-of}
-use Rattle.slot.proofs.Blocks.{block-cong}
-use Rattle.slot.proofs.BurstParts.{burst-both}
+use Rattle.modulation.specs.Held.{block-of}
+use Rattle.modulation.proofs.Blocks.{block-cong}
+use Rattle.modulation.proofs.BurstParts.{burst-both}
 use Rattle.slot.proofs.BurstPlace.{cell-start, sync-inside, sync-outside}
 
 -- ---- the settings as the struct holds them

@@ -10,10 +10,10 @@ use Rattle.complex.specs.Buffers.{listed, value}
 use Rattle.complex.proofs.Lists.{value-in-buffers, listed-cong}
 use Rattle.codes.specs.Scrambling.{scrambling}
 use Rattle.slot.specs.declared.Settings.{Settings}
-use Rattle.slot.specs.declared.data.Block.{Block}
+use Rattle.modulation.specs.declared.Block.{Block}
 use Rattle.slot.specs.Slot.{data-chips, sync-chip, field-chip}
 use Rattle.slot.specs.Tables.{view, view-sync}
-use Rattle.slot.specs.Held.{block-of, spread}
+use Rattle.modulation.specs.Held.{block-of, spread}
 use Rattle.slot.proofs.Viewed.{symbols-from, spread-chip, data-is}
 
 -- entry c of a block

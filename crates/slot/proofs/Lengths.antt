@@ -3,19 +3,20 @@ use mathlib.Core.Path.{_≡_}
 use Prim.Native.Nat.{ℕ, zero, suc, _+_, _%_, _≤_}
 use lib.Dec.{T, eqb, eqb→eq, leb, leb→le}
 use Rattle.slot.specs.declared.parts.Parts.{Parts}
-use Rattle.slot.specs.Slot.{burst-type}
+use Rattle.slot.specs.Slot.{slot-length, burst-type}
 
 pub record Lengths (t : Parts) : Type 0 where
   pub first : t .field1 % 16 ≡ 0
   pub second : (t .field1 + t .midamble) % 16 ≡ 0
   pub chips : (t .field1 + t .field2) % 16 ≡ 0
   pub pairs : t .field1 + t .field2 ≤ 2208
-  pub slot : t .field1 + t .midamble + t .field2 ≤ 2560
+  -- "A slot has 2,560 chips: field 1, midamble, field 2, guard."
+  pub slot : t .field1 + t .midamble + t .field2 + t .guard ≡ slot-length
 
 -- the rules as tests that compute
 row : {t : Parts} → T (eqb (t .field1 % 16) 0) → T (eqb ((t .field1 + t .midamble) % 16) 0) → T (eqb ((t .field1 + t .field2) % 16) 0)
-    → T (leb (t .field1 + t .field2) 2208) → T (leb (t .field1 + t .midamble + t .field2) 2560) → Lengths t
-row a b c d e = record { first = eqb→eq _ _ a; second = eqb→eq _ _ b; chips = eqb→eq _ _ c; pairs = leb→le _ _ d; slot = leb→le _ _ e }
+    → T (leb (t .field1 + t .field2) 2208) → T (eqb (t .field1 + t .midamble + t .field2 + t .guard) slot-length) → Lengths t
+row a b c d e = record { first = eqb→eq _ _ a; second = eqb→eq _ _ b; chips = eqb→eq _ _ c; pairs = leb→le _ _ d; slot = eqb→eq _ _ e }
 
 pub lengths-of : (t : ℕ) → Lengths (burst-type t)
 unfolding burst-type

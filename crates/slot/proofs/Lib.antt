@@ -1,9 +1,4 @@
 -- The laws of the slot, for the proofs of this crate and of those above it.
-pub mod Blocks
-pub mod Levels
-pub mod Terms
-pub mod Climbing
-pub mod BurstParts
 pub mod BurstPlace
 pub mod BurstBlocks
 pub mod Pieces

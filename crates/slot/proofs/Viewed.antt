@@ -18,9 +18,11 @@ use Rattle.codes.specs.Scrambling.{scrambling}
 use Rattle.codes.specs.Tree.{is-spreading-factor, element, width}
 use Rattle.codes.proofs.Leaves.{leaves-within}
 use Rattle.slot.specs.declared.Settings.{Settings}
-use Rattle.slot.specs.Slot.{data-chips, bit-count, pair, symbol, channel-chip, data-chip}
-use Rattle.slot.specs.Tables.{node, place, held-bit, held-channel, view-channel, view}
-use Rattle.slot.specs.Held.{level-sum, spread}
+use Rattle.modulation.specs.Symbols.{pair, symbol}
+use Rattle.slot.specs.Slot.{data-chips, bit-count, channel-chip, data-chip}
+use Rattle.modulation.specs.Held.{node}
+use Rattle.slot.specs.Tables.{place, held-bit, held-channel, view-channel, view}
+use Rattle.modulation.specs.Held.{level-sum, spread}
 use Rattle.slot.proofs.Lengths.{lengths-of}
 use Rattle.slot.proofs.Places.{code-place, pair-below, pair-place, pair-inside}
 

@@ -1,4 +1,3 @@
 pub mod Setup
 pub mod Slot
 pub mod Tables
-pub mod Held

@@ -1,16 +1,17 @@
 -- Document 01, "The slot", and of "The sync burst" where the burst falls.
-use lib.IntN.{pos, negsuc}
+use lib.IntN.{pos}
 use Prim.Native.Nat.{ℕ, _+_, _*_, _-_, _/_, _%_}
-use mathlib.Core.List.{List, [], _∷_}
+use mathlib.Core.List.{[], _∷_}
 use mathlib.Core.Bool.{_&&_, cond}
 use mathlib.Core.Option.{Option, none, some}
 use lib.Dec.{ltb, leb}
 use lib.ListN.{getD}
 use Rattle.complex.specs.declared.Complex.{Complex}
-use Rattle.complex.specs.Arithmetic.{_+j_, real, 𝟎, 𝟏, 𝐣, _⊕_, _⊗_, Σ<}
+use Rattle.complex.specs.Arithmetic.{real, 𝟎, _⊕_, _⊗_, Σ<}
 use Rattle.codes.specs.Tree.{element}
 use Rattle.codes.specs.Scrambling.{scrambling, code-group}
 use Rattle.codes.specs.Burst.{burst, burst-start}
+use Rattle.modulation.specs.Symbols.{pair, symbol}
 use Rattle.slot.specs.declared.parts.Parts.{Parts}
 use Rattle.slot.specs.Setup.{Channel, SyncSetup, Setup}
 
@@ -30,21 +31,13 @@ burst-type t =
     lengths 1104 256 1104 96 ∷
     lengths 976 512 880 192 ∷ []) t (lengths 0 0 0 2560)
 
--- F1 + F2, F1 and F2 being its field lengths
+-- F1 + F2, F1 and F2 being the field lengths of type t
 abbrev pub data-chips : ℕ → ℕ
 data-chips t = burst-type t .field1 + burst-type t .field2
 
 -- A channel has 2(F1+F2)/Q bits.
 abbrev pub bit-count : ℕ → ℕ → ℕ
 bit-count t Q = 2 * data-chips t / Q
-
--- Bits go in pairs to symbols, first bit written first:
-abbrev pub pair : List ℕ → ℕ → ℕ
-pair bits n = 2 * getD bits (2 * n) 0 + getD bits (2 * n + 1) 0
-
--- 00 is +j, 01 is +1, 10 is -1, 11 is -j.
-unfoldable pub symbol : ℕ → Complex
-symbol n = getD (𝐣 ∷ 𝟏 ∷ (negsuc 0 +j pos 0) ∷ (pos 0 +j negsuc 0) ∷ []) n 𝟎
 
 -- Chip q of a field (from 0) is, for one channel, gain × symbol (q div Q) × code element (q mod Q) × complex scrambling element 1 + (q mod 16).
 -- The index restarts in each field; field 1's bits come first, then field 2's: `before` is the number of chips of the fields before this one.
@@ -61,7 +54,7 @@ over-codes f = Σ< 1 (f 1) ⊕ Σ< 2 (f 2) ⊕ Σ< 4 (f 4) ⊕ Σ< 8 (f 8) ⊕ �
 unfoldable pub data-chip : Setup → ℕ → ℕ → Complex
 data-chip s before q = over-codes (λ Q k. channel-chip (s .cell) before q Q k (s .channel Q k))
 
--- the sync burst where it falls: 256 chips, unscrambled, from the start of the cell's group on; x is the slot's chip
+-- the sync burst where it falls: 256 chips, unscrambled, from the start of the cell's group on; x is the chip's number in the slot
 unfoldable pub sync-chip : ℕ → Option SyncSetup → ℕ → Complex
 sync-chip p none x = 𝟎
 sync-chip p (some y) x =
@@ -73,7 +66,7 @@ sync-chip p (some y) x =
 abbrev pub field-chip : Setup → ℕ → ℕ → ℕ → Complex
 field-chip s before start q = data-chip s before q ⊕ sync-chip (s .cell) (s .sync) (start + q)
 
--- Chip x of the slot, from 0. Midamble and guard chips are 0; a burst lies whole inside one field (`burst-inside`).
+-- Chip x of the slot, from 0; 0 past its end. Midamble and guard chips are 0; a burst lies whole inside one field (`burst-inside`).
 unfoldable pub chip : Setup → ℕ → Complex
 chip s x =
     let t = burst-type (s .type) in

@@ -7,14 +7,11 @@ use lib.Dec.{eqb, leb}
 use lib.ListN.{getD}
 use Rattle.complex.specs.Buffers.{listed}
 use Rattle.codes.specs.Tree.{is-code, width}
+use Rattle.modulation.specs.Held.{node}
 use Rattle.slot.specs.declared.Settings.{Settings}
 use Rattle.slot.specs.declared.Sync.{Sync}
 use Rattle.slot.specs.Setup.{Channel, SyncSetup, Setup}
 use Rattle.slot.specs.Slot.{bit-count}
-
--- the gain of code (Q, k) stands at its node of the tree, 0 where it is not open
-abbrev pub node : ℕ → ℕ → ℕ
-node Q k = Q - 1 + k
 
 -- Pairs of bits stand block by block of 16 chips, both fields in a row. In a block code (Q, k) owns 16/Q entries from k·16/Q on,
 -- so unrelated codes never overlap: the entry of pair n of code (Q, k)
@@ -29,7 +26,7 @@ abbrev pub held-channel : ℕ → List ℕ → Option Channel
 held-channel zero bits = none
 held-channel (suc g) bits = some (record { gain = suc g; bits = bits })
 
--- a parameter above 127 has no code group, so no burst
+-- a parameter above 127 is in none of the groups 0 to 31, so it has no burst
 unfoldable pub view-sync : ℕ → Sync → Option SyncSetup
 view-sync p y =
     cond (eqb (y .on) 0 || leb 128 p) none

@@ -8,15 +8,15 @@ ghost use lib.ListN.{getD, length};
 ghost use Rattle.complex.specs.Arithmetic.{_+j_, 𝟎, _⊕_, _⊗_};
 ghost use Rattle.complex.specs.Buffers.{listed, value};
 ghost use Rattle.complex.specs.Fits.{Bound};
-ghost use Rattle.slot.specs.Setup.{Setup};
-ghost use Rattle.slot.specs.Slot.{chip, data-chips, field-chip, symbol};
+ghost use Rattle.modulation.specs.Symbols.{symbol};
+ghost use Rattle.slot.specs.Slot.{chip, data-chips, field-chip};
 ghost use Rattle.slot.specs.Tables.{view};
-ghost use Rattle.slot.specs.Held.{block-of, spread};
+ghost use Rattle.modulation.specs.Held.{block-of, spread};
 use crate::Settings;
 use crate::burst;
-use crate::data;
-use crate::data::Block;
 use crate::parts;
+use modulation::Block;
+use modulation::data;
 
 // The smaller of the two.
 pub fn smaller(a: usize, b: usize) -> usize
@@ -126,8 +126,8 @@ fn cut(end: usize, from: usize, n: usize) -> usize
     smaller(past(end, from), n)
 }
 
-// The chips of the slot from chip `from` on, as many as the buffers have: each of the slot's four parts is written into its own part
-// of the buffers.
+// The chips of the slot from chip `from` on, as many as the buffers have, 0 past the slot's end: each of the slot's four parts is written
+// into its own part of the buffers.
 pub fn write(s: Settings, from: usize, re: &mut [i32], im: &mut [i32])
     requires { ⌜ length (now im) ≡ length (now re) ⌝ }
     ensures real { λ r. ⌜ now (re .exit) ≡ listed (length (now (re .entry))) (λ i. chip (view s) (from + i) .re) ⌝ }

@@ -1,9 +1,7 @@
 // The timeslot of document 01: the settings that it is made of, and its chips.
-ghost use mathlib.Core.Path.{_≡_};
 use codes::CellParameter;
 
 mod burst;
-mod data;
 pub mod field;
 pub mod parts;
 
@@ -18,8 +16,8 @@ pub struct Sync {
     pub gs: u16,
 }
 
-// The settings of a slot. `gains` has one entry a code: code (q, k) at q - 1 + k, 0 where it is not open. `pairs` has one entry, 0 to 3, a
-// pair of bits, block by block of 16 chips, both fields in a row: in a block code (q, k) owns 16/q entries from k 16/q on.
+// The settings of a slot. `gains` has one entry a code: code (q, k) at q - 1 + k, 0 where it is not open. `pairs` has one entry, 0 to 3, for
+// each pair of bits, block by block of 16 chips, both fields in a row: in a block code (q, k) owns 16/q entries from k 16/q on.
 #[repr(C)]
 pub struct Settings {
     pub cell: CellParameter,

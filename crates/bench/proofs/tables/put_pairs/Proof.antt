@@ -4,7 +4,7 @@ use Prim.Native.Nat.{_+_, _-_, _≤_}
 use native.Mathlib.Omega.{arith}
 use borrow.Author.Needs.{needs}
 use lib.ListN.{length, length-set}
-use Rattle.slot.specs.Slot.{pair}
+use Rattle.modulation.specs.Symbols.{pair}
 use Rattle.bench.specs.Held.{with-part}
 use Rattle.bench.proofs.Pairs.{Became, part, all-entries, no-part, one-more-in-part}
 use Rattle.bench.proofs.tables.put_pairs.Statement.{statement}

@@ -6,7 +6,7 @@ use native.Mathlib.Nat.{mul-le-mul-right}
 use native.Mathlib.Omega.{arith}
 use borrow.Author.Needs.{needs}
 use lib.ListN.{length}
-use Rattle.slot.specs.Slot.{pair}
+use Rattle.modulation.specs.Symbols.{pair}
 use Rattle.bench.specs.Changes.{pairs-with}
 use Rattle.bench.proofs.Loading.{pairs-in-block}
 use Rattle.bench.proofs.Pairs.{Became, blocks, all-entries, no-block, one-more-block, all-blocks}

@@ -12,12 +12,12 @@ use Rattle.complex.specs.declared.Complex.{Complex}
 use Rattle.complex.specs.Fits.{Bound}
 use Rattle.codes.specs.Scrambling.{code-group}
 use Rattle.codes.specs.Burst.{burst, burst-start}
-use Rattle.slot.specs.declared.data.Block.{Block}
+use Rattle.modulation.specs.declared.Block.{Block}
 use Rattle.slot.specs.Setup.{SyncSetup}
 use Rattle.slot.specs.Slot.{sync-chip}
 use Rattle.slot.specs.Tables.{view-sync}
-use Rattle.slot.specs.Held.{block-of}
-use Rattle.slot.proofs.Blocks.{block-bound}
+use Rattle.modulation.specs.Held.{block-of}
+use Rattle.modulation.proofs.Blocks.{block-bound}
 use Rattle.slot.proofs.BurstPlace.{cell-start}
 use Rattle.slot.proofs.BurstBlocks.{viewed, view-off, view-on, block-outside, block-inside, view-both}
 use Rattle.slot.proofs.burst.at.Statement.{statement}

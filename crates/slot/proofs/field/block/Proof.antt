@@ -1,8 +1,8 @@
 -- `block` meets its contract: each callee's answer goes into the next one's. Assumes nothing.
 use borrow.Author.Needs.{needs}
-use Rattle.slot.specs.Held.{spread}
+use Rattle.modulation.specs.Held.{spread}
 use Rattle.slot.proofs.FieldBlocks.{spread-is}
-use Rattle.slot.proofs.Blocks.{block-bound, symbol-both}
+use Rattle.modulation.proofs.Blocks.{block-bound, symbol-both}
 use Rattle.slot.proofs.field.block.Statement.{statement}
 use Rattle.slot.proofs.field.block.Tie as tie
 

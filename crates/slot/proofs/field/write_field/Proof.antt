@@ -8,7 +8,7 @@ use lib.ListN.{length, length-take}
 use Rattle.complex.specs.Buffers.{listed}
 use Rattle.slot.proofs.Pieces.{length-written, filled}
 use Rattle.codes.proofs.Rows.{scrambling-both}
-use Rattle.slot.proofs.Blocks.{block-bound}
+use Rattle.modulation.proofs.Blocks.{block-bound}
 use Rattle.slot.proofs.field.write_field.Statement.{statement}
 use Rattle.slot.proofs.field.write_field.Tie as tie
 use Rattle.slot.proofs.field.write_field.Proof.Turn.{Inv-loop, μ-loop, began, small, fit, turned}

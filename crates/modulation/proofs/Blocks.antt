@@ -1,0 +1,74 @@
+-- Two arrays of sixteen that a loop writes side by side, and the block made of them. Assumes nothing.
+use mathlib.Core.Path.{_≡_, refl, ap, _∙_}
+use mathlib.Core.List.{List}
+use Prim.Native.Nat.{ℕ, zero, suc, _+_, _≤_, _<_}
+use native.Mathlib.Omega.{arith}
+use lib.IntN.{ℤ, pos, natAbs}
+use lib.Dec.{T, leb, leb→le}
+use Rattle.complex.specs.Arithmetic.{𝟎, 𝟏, 𝐣}
+use Rattle.modulation.specs.Symbols.{symbol}
+use lib.ListN.{set, replicate}
+use mir.Syntax.{w32}
+use mir.Val.{toZ, ofZ}
+use mir.Facts.{toZ-ofZ}
+use Rattle.complex.specs.declared.Complex.{Complex}
+use Rattle.complex.specs.Buffers.{listed, written}
+use Rattle.complex.specs.Fits.{Bound, Both, Fits32}
+use Rattle.complex.proofs.Lists.{one-more-written, listed-cong}
+use Rattle.complex.proofs.Bounds.{bound-listed}
+use Rattle.modulation.specs.declared.Block.{Block}
+use Rattle.modulation.specs.Held.{block-of}
+
+abbrev zeros : List ℤ
+zeros = replicate 16 (pos 0)
+
+-- the first i entries are f's: a loop's invariant
+pub record Filled (f : ℕ → Complex) (re im : List ℤ) (i : ℕ) : Type 0 where
+  pub below : i ≤ 16
+  pub res : re ≡ written (listed i (λ k. f k .re)) zeros
+  pub ims : im ≡ written (listed i (λ k. f k .im)) zeros
+
+pub filled-none : {f : ℕ → Complex} → Filled f zeros zeros 0
+unfolding listed
+filled-none = record { below = omega arith; res = refl; ims = refl }
+
+module _ {f : ℕ → Complex} {re im : List ℤ} {i : ℕ} (h : Filled f re im i) where
+  -- a turn of the loop: z is held in locals on its way
+  pub filled-more : i < 16 → (z : Complex) → Fits32 z → z ≡ f i
+      → Filled f (set re i (toZ w32 (ofZ w32 (z .re)))) (set im i (toZ w32 (ofZ w32 (z .im)))) (i + 1)
+  filled-more l z g e =
+      record {
+        below = omega arith;
+        res = (λ j. set (h .res j) i ((toZ-ofZ (g .re) ∙ ap (λ (x : Complex). x .re) e) j)) ∙ one-more-written (λ k. f k .re) zeros i (omega arith);
+        ims = (λ j. set (h .ims j) i ((toZ-ofZ (g .im) ∙ ap (λ (x : Complex). x .im) e) j)) ∙ one-more-written (λ k. f k .im) zeros i (omega arith);
+      }
+
+  pub filled-all : 16 ≤ i → _≡_ {A = Block} (record { re = re; im = im }) (block-of f)
+  unfolding listed
+  filled-all l =
+      let e : i ≡ 16 = omega arith in
+      λ j. record { re = (rw e at (h .res)) j; im = (rw e at (h .ims)) j }
+
+-- equal entries, equal blocks
+pub block-cong : (f g : ℕ → Complex) → ((i : ℕ) → i < 16 → f i ≡ g i) → block-of f ≡ block-of g
+block-cong f g h =
+    let re = listed-cong 16 (λ i. f i .re) (λ i. g i .re) (λ i l. ap (λ (x : Complex). x .re) (h i l)) in
+    let im = listed-cong 16 (λ i. f i .im) (λ i. g i .im) (λ i l. ap (λ (x : Complex). x .im) (h i l)) in
+    λ j. record { re = re j; im = im j }
+
+-- the size of a block's entries
+pub block-bound : {k : ℕ} {r : Block} (f : ℕ → Complex) → r ≡ block-of f → ((i : ℕ) → Both k (f i)) → Bound k (r .re) × Bound k (r .im)
+block-bound {k} f e h = rw e (bound-listed k 16 (λ i. f i .re) (λ i. h i .re), bound-listed k 16 (λ i. f i .im) (λ i. h i .im))
+
+-- ---- the size of a symbol
+-- a test that computes
+unit : {x : Complex} → T (leb (natAbs (x .re)) 1) → T (leb (natAbs (x .im)) 1) → Both 1 x
+unit a b = record { re = record { size = leb→le _ _ a }; im = record { size = leb→le _ _ b } }
+
+pub symbol-both : (n : ℕ) → Both 1 (symbol n)
+unfolding symbol 𝟎 𝟏 𝐣
+symbol-both zero = unit tt tt
+symbol-both (suc zero) = unit tt tt
+symbol-both (suc (suc zero)) = unit tt tt
+symbol-both (suc (suc (suc zero))) = unit tt tt
+symbol-both (suc (suc (suc (suc n)))) = unit tt tt

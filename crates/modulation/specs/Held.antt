@@ -1,0 +1,60 @@
+-- How the code computes what the other files define. Nothing here is document 01's: the contracts of the bench's calls do not name it.
+use lib.IntN.{ℤ, pos, _+ℤ_, _-ℤ_, _*ℤ_}
+use Prim.Native.Nat.{ℕ, _+_, _*_, _-_, _/_, _%_}
+use mathlib.Core.List.{List}
+use mathlib.Core.Bool.{cond}
+use lib.Dec.{eqb}
+use lib.ListN.{getD}
+use Rattle.complex.specs.declared.Complex.{Complex}
+use Rattle.complex.specs.Arithmetic.{_+j_, real, _⊕_, _⊗_, Σℤ<}
+use Rattle.complex.specs.Buffers.{listed}
+use Rattle.codes.specs.declared.ModulatedCode.{ModulatedCode}
+use Rattle.codes.specs.declared.Allocated.{Allocated}
+use Rattle.codes.specs.Signs.{_at_}
+use Rattle.codes.specs.SyncCodes.{a, b}
+use Rattle.codes.specs.Held.{secondary-row, sign-bit}
+use Rattle.codes.specs.Tree.{element, width}
+use Rattle.modulation.specs.declared.Block.{Block}
+use Rattle.modulation.specs.Symbols.{symbol}
+
+-- f 0, .., f 15 in a block
+abbrev pub block-of : (ℕ → Complex) → Block
+block-of f = record { re = listed 16 (λ i. f i .re); im = listed 16 (λ i. f i .im) }
+
+-- ---- data: a block of sixteen chips from sixteen entries, one component x of their symbols at a time
+-- the gain of code (Q, k) stands at its node of the tree, 0 where it is not open
+abbrev pub node : ℕ → ℕ → ℕ
+node Q k = Q - 1 + k
+
+-- what the codes of factor Q add to chip c
+unfoldable pub level-sum : List ℕ → List ℤ → ℕ → ℕ → ℤ
+level-sum gains x Q c = Σℤ< Q (λ k. pos (getD gains (node Q k) 0) *ℤ getD x (k * width Q + c / Q) (pos 0) *ℤ element Q k (c % Q))
+
+-- what all codes add to chip c
+unfoldable pub spread : List ℕ → List ℤ → ℕ → ℤ
+spread gains x c = level-sum gains x 1 c +ℤ level-sum gains x 2 c +ℤ level-sum gains x 4 c +ℤ level-sum gains x 8 c +ℤ level-sum gains x 16 c
+
+-- One level up the tree: code (Q, k) stands in (2Q, 2k) twice, and in (2Q, 2k+1) with its negative second. So a symbol of each of the two
+-- is, on the first Q of its chips, their sum at (Q, k), and on the other Q chips their difference. Entry i of level Q from the entries x of level 2Q:
+unfoldable pub raised : List ℤ → ℕ → ℕ → ℤ
+raised x Q i =
+    let w = width Q in
+    let n = i / w * w + i % w / 2 in
+    cond (eqb Q 16) (pos 0)
+    (cond (eqb (i % 2) 0) (getD x n (pos 0) +ℤ getD x (n + w / 2) (pos 0)) (getD x n (pos 0) -ℤ getD x (n + w / 2) (pos 0)))
+
+-- and with the gains of level Q's own codes on the symbols s
+unfoldable pub climbed : List ℕ → List ℤ → List ℤ → ℕ → ℕ → ℤ
+climbed gains s x Q i = raised x Q i +ℤ pos (getD gains (node Q (i / width Q)) 0) *ℤ getD s i (pos 0)
+
+-- ---- the burst by parts of sixteen chips
+-- what (1 + j) b is multiplied by in part m of a modulated code
+unfoldable pub modulated-part : ModulatedCode → ℕ → Complex
+modulated-part c m = real (sign-bit (secondary-row (c .code)) m) ⊗ c .unit
+
+abbrev pub modulated-parts : Allocated → ℕ → Complex
+modulated-parts s m = modulated-part (s .first) m ⊕ modulated-part (s .second) m ⊕ modulated-part (s .marker) m
+
+-- chip i of a part: (1 + j) p times a, and s times b
+abbrev pub part-chip : ℤ → Complex → ℕ → Complex
+part-chip p s i = real (a at i) ⊗ (p +j p) ⊕ real (b at i) ⊗ s
