@@ -12,7 +12,7 @@ use Rattle.codes.specs.Tree.{is-code, related}
 use Rattle.slot.specs.declared.Settings.{Settings}
 use Rattle.slot.specs.Setup.{is-open, is-some}
 use Rattle.slot.specs.Slot.{bit-count}
-use Rattle.modulation.specs.Held.{node}
+use Rattle.modulation.specs.Nodes.{node}
 use Rattle.slot.specs.Tables.{held-bit, held-channel, view, view-channel}
 use Rattle.bench.specs.BenchCalls.{related-to-open, some-code}
 use Rattle.bench.specs.Held.{clashes, open-at}

@@ -10,7 +10,7 @@ use Rattle.codes.specs.Tree.{width}
 use Rattle.slot.specs.declared.Settings.{Settings}
 use Rattle.slot.specs.declared.Sync.{Sync}
 use Rattle.modulation.specs.Symbols.{pair}
-use Rattle.modulation.specs.Held.{node}
+use Rattle.modulation.specs.Nodes.{node}
 use Rattle.bench.specs.declared.Bench.{Bench}
 
 abbrev pub with-gains : Settings → List ℕ → Settings

@@ -7,7 +7,7 @@ use lib.ListN.{getD}
 use Rattle.complex.specs.Buffers.{listed}
 use Rattle.codes.specs.Refusals.{Refusal, _if_}
 use Rattle.codes.specs.Tree.{is-spreading-factor, related}
-use Rattle.modulation.specs.Held.{node}
+use Rattle.modulation.specs.Nodes.{node}
 
 -- the first two refusals of each call that takes a code
 abbrev pub code-refusals : ℕ → ℕ → List Refusal

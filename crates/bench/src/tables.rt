@@ -5,7 +5,7 @@ ghost use Prim.Native.Nat.{_+_, _%_, _<_, _≤_};
 ghost use lib.ListN.{length};
 ghost use Rattle.codes.specs.Tree.{is-spreading-factor};
 ghost use Rattle.modulation.specs.Symbols.{pair as pair-of};
-ghost use Rattle.modulation.specs.Held.{node as node-of};
+ghost use Rattle.modulation.specs.Nodes.{node as node-of};
 ghost use Rattle.bench.specs.BenchCalls.{has-byte-above-1};
 ghost use Rattle.bench.specs.Changes.{pairs-with};
 ghost use Rattle.bench.specs.Held.{with-part};

@@ -12,7 +12,7 @@ use Rattle.complex.specs.Fits.{Within, Bound}
 use Rattle.complex.proofs.Sizes.{within-add, within-sub, within-mul}
 use Rattle.codes.specs.Tree.{width}
 use Rattle.modulation.specs.Held.{raised, climbed}
-use Rattle.modulation.specs.Held.{node}
+use Rattle.modulation.specs.Nodes.{node}
 
 -- the entries of level Q, from those of the level below
 abbrev pub level : List ℕ → List ℤ → ℕ → List ℤ → List ℤ

@@ -15,7 +15,7 @@ use Rattle.codes.specs.Tree.{is-spreading-factor, element, width}
 use Rattle.codes.proofs.Tests.{each-at, same, same→eq}
 use Rattle.codes.proofs.Leaves.{each-code, at-code}
 use Rattle.modulation.specs.Held.{raised, climbed}
-use Rattle.modulation.specs.Held.{node}
+use Rattle.modulation.specs.Nodes.{node}
 use Rattle.modulation.proofs.Levels.{level}
 
 -- ---- the places and signs of the codes

@@ -15,6 +15,7 @@ use Rattle.codes.specs.SyncCodes.{a, b}
 use Rattle.codes.specs.Held.{secondary-row, sign-bit}
 use Rattle.codes.specs.Tree.{element, width}
 use Rattle.modulation.specs.declared.Block.{Block}
+use Rattle.modulation.specs.Nodes.{node}
 use Rattle.modulation.specs.Symbols.{symbol}
 
 -- f 0, .., f 15 in a block
@@ -22,10 +23,6 @@ abbrev pub block-of : (ℕ → Complex) → Block
 block-of f = record { re = listed 16 (λ i. f i .re); im = listed 16 (λ i. f i .im) }
 
 -- ---- data: a block of sixteen chips from sixteen entries, one component x of their symbols at a time
--- the gain of code (Q, k) stands at its node of the tree, 0 where it is not open
-abbrev pub node : ℕ → ℕ → ℕ
-node Q k = Q - 1 + k
-
 -- what the codes of factor Q add to chip c
 unfoldable pub level-sum : List ℕ → List ℤ → ℕ → ℕ → ℤ
 level-sum gains x Q c = Σℤ< Q (λ k. pos (getD gains (node Q k) 0) *ℤ getD x (k * width Q + c / Q) (pos 0) *ℤ element Q k (c % Q))

@@ -11,7 +11,7 @@ ghost use Rattle.complex.specs.Fits.{Bound, Within};
 ghost use Rattle.codes.specs.Scrambling.{scrambling};
 ghost use Rattle.codes.specs.Tree.{is-spreading-factor, width};
 ghost use Rattle.modulation.specs.Symbols.{symbol as symbol-of};
-ghost use Rattle.modulation.specs.Held.{node as node-of};
+ghost use Rattle.modulation.specs.Nodes.{node as node-of};
 ghost use Rattle.modulation.specs.Held.{block-of, climbed as climbed-of, raised as raised-of, spread as spread-of};
 use crate::Block;
 use codes::CellParameter;

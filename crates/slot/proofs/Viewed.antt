@@ -20,7 +20,7 @@ use Rattle.codes.proofs.Leaves.{leaves-within}
 use Rattle.slot.specs.declared.Settings.{Settings}
 use Rattle.modulation.specs.Symbols.{pair, symbol}
 use Rattle.slot.specs.Slot.{data-chips, bit-count, channel-chip, data-chip}
-use Rattle.modulation.specs.Held.{node}
+use Rattle.modulation.specs.Nodes.{node}
 use Rattle.slot.specs.Tables.{place, held-bit, held-channel, view-channel, view}
 use Rattle.modulation.specs.Held.{level-sum, spread}
 use Rattle.slot.proofs.Lengths.{lengths-of}

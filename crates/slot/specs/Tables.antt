@@ -7,7 +7,7 @@ use lib.Dec.{eqb, leb}
 use lib.ListN.{getD}
 use Rattle.complex.specs.Buffers.{listed}
 use Rattle.codes.specs.Tree.{is-code, width}
-use Rattle.modulation.specs.Held.{node}
+use Rattle.modulation.specs.Nodes.{node}
 use Rattle.slot.specs.declared.Settings.{Settings}
 use Rattle.slot.specs.declared.Sync.{Sync}
 use Rattle.slot.specs.Setup.{Channel, SyncSetup, Setup}
