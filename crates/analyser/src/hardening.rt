@@ -5,8 +5,8 @@ ghost use lib.ListN.{length};
 ghost use Rattle.complex.specs.Buffers.{listed, value, written};
 ghost use Rattle.analyser.specs.Hardening.{hard-bit, hard-pair};
 use crate::largest::Largest;
-use crate::sums::minus;
-use crate::sums::wide;
+use crate::wide::minus;
+use crate::wide::wide;
 use complex::Complex;
 
 // The number, 0 to 3, of the pair that scores highest, the earliest on a tie.

@@ -1,13 +1,12 @@
 // The calls at and past the limits of their arguments. The lists here and those of tools/analyser_vectors.py are the same.
 use crate::finding;
-use crate::form;
-use crate::form::Row;
-use crate::hardening;
-use crate::readings;
 use crate::rows;
-use crate::rows::Kind;
-use crate::signals;
-use crate::sync;
+use analyser_calls::hardening;
+use analyser_calls::readings;
+use analyser_calls::sync;
+use signals::form::Row;
+use signals::kinds;
+use signals::kinds::Kind;
 
 pub fn all() {
     let list = b"128 3 9 16 32 0 0 0 100001 0, 4294967295 4 1 16 16 4 4 0 0 0, \
@@ -53,7 +52,7 @@ pub fn all() {
 // The last three numbers give the one entry that is not 0: its place, its re and its im. Before these come the lengths of the
 // buffers.
 pub fn line(kind: Kind, x: Row) {
-    head(kind, x);
+    kinds::head(kind, x);
     let chips = signals::impulse(x.7, x.8, x.9);
     match kind {
         Kind::EdgeRead => readings::answer(x, true, &chips),
@@ -61,21 +60,4 @@ pub fn line(kind: Kind, x: Row) {
         Kind::EdgeSync => sync::answer(x, &chips),
         _ => finding::answer(x, &chips),
     }
-}
-
-fn head(kind: Kind, x: Row) {
-    match kind {
-        Kind::EdgeRead => form::line(b"edge-read # # # # # # # # ~ ~: ", x),
-        Kind::EdgeHarden => form::line(b"edge-harden # # # # ~ ~: ", last_six(x)),
-        Kind::EdgeSync => form::line(b"edge-sync # # # # ~ ~: ", last_six(x)),
-        _ => form::line(b"edge-find # # # # # ~ ~: ", last_seven(x)),
-    }
-}
-
-fn last_six(x: Row) -> Row {
-    Row(x.4, x.5, x.6, x.7, x.8, x.9, 0, 0, 0, 0)
-}
-
-fn last_seven(x: Row) -> Row {
-    Row(x.3, x.4, x.5, x.6, x.7, x.8, x.9, 0, 0, 0)
 }

@@ -1,16 +1,14 @@
 // Find, in recordings of noise and of bursts.
-use crate::buffers;
-use crate::form;
-use crate::form::Row;
 use crate::rows;
-use crate::rows::Kind;
-use crate::signals;
-use crate::signals::Chips;
-use crate::signals::IM;
-use analyser::FindAnswer;
-use analyser::Peak;
 use code_text::print;
-use codes::CodeGroup;
+use signals::Chips;
+use signals::IM;
+use signals::buffers;
+use signals::form;
+use signals::form::Row;
+use signals::kinds::Kind;
+use sync_analyser::FindAnswer;
+use sync_analyser::Peak;
 
 pub fn all() {
     let list =
@@ -27,21 +25,11 @@ pub fn all() {
 // The number of chips, the limit and the seed of the noise, the burst's group and its two starts; 9999 is past every end.
 pub fn line(x: Row) {
     let n = x.4;
-    let chips = recording(n, x.5, x.6, x.7, x.8, x.9);
+    let chips = signals::recording(n, x.5, x.6, x.7, x.8, x.9);
     let digest = signals::digest_of(&chips, n);
     let row = Row(n, x.5, x.6, x.7, x.8, x.9, digest, 0, 0, 0);
     form::line(b"find # noise # seed # burst # at # and # chips #: ", row);
     answer(Row(0, 0, 0, n, n, 5121, 5121, 0, 0, 0), &chips)
-}
-
-// The burst's gains are 5 and 3, and it is added 40 times as strong.
-fn recording(n: u32, limit: u32, seed: u32, group: u32, start: u32, second: u32) -> Chips {
-    let mut chips = signals::zeros();
-    signals::add_noise(&mut chips, n, limit, seed);
-    let three = codes::burst::allocated(1, CodeGroup(group), 1, 0);
-    signals::add_burst(&mut chips, start, three, 40 * 5, 40 * 3);
-    signals::add_burst(&mut chips, second, three, 40 * 5, 40 * 3);
-    chips
 }
 
 // The rest of a line; the fourth to the seventh number are the lengths of the buffers.
@@ -56,7 +44,7 @@ pub fn answer(x: Row, chips: &Chips) {
 }
 
 fn find(x: Row, chips: &[i32], sumre: &mut [i32], sumim: &mut [i32]) -> FindAnswer {
-    analyser::find(
+    sync_analyser::find(
         signals::part(chips, 0, x.3),
         signals::part(chips, IM, x.4),
         buffers::first(sumre, x.5),

@@ -1,22 +1,11 @@
 // Lists of numbers, and a line for each row of a list.
 use crate::edges;
 use crate::finding;
-use crate::form;
-use crate::form::Row;
-
-pub enum Kind {
-    Find,
-    EdgeRead,
-    EdgeHarden,
-    EdgeSync,
-    EdgeFind,
-}
-
-// The numbers read last, of which the last one may not be complete, and whether that one is negative.
-struct Numbers {
-    row: Row,
-    negative: bool,
-}
+use signals::form;
+use signals::form::Row;
+use signals::kinds::Kind;
+use signals::numbers;
+use signals::numbers::Numbers;
 
 // The lines of a kind for a list, in which commas stand between the rows and blanks between the numbers.
 pub fn all(kind: Kind, list: &[u8]) {
@@ -56,23 +45,9 @@ fn read(kind: Kind, x: Numbers, b: u8) -> Numbers {
             negative: true,
         },
         b'0'..=b'9' => Numbers {
-            row: with_digit(row, x.negative, b - b'0'),
+            row: numbers::with_digit(row, x.negative, b - b'0'),
             negative: x.negative,
         },
         _ => x,
     }
-}
-
-fn with_digit(x: Row, negative: bool, digit: u8) -> Row {
-    let last = digit_after(x.9, negative, digit as u32);
-    Row(x.0, x.1, x.2, x.3, x.4, x.5, x.6, x.7, x.8, last)
-}
-
-// Ten times x and the digit, modulo 2^32; a negative number goes down.
-fn digit_after(x: u32, negative: bool, digit: u32) -> u32 {
-    let tenfold = (x as u64 * 10 % 4294967296) as u32;
-    if negative {
-        return std::num::wrapping_sub_u32(tenfold, digit);
-    }
-    std::num::wrapping_add_u32(tenfold, digit)
 }

@@ -15,7 +15,7 @@ use Rattle.codes.specs.declared.Allocated.{Allocated}
 use Rattle.codes.specs.SyncCodes.{Cp}
 use Rattle.codes.specs.Burst.{secondaries}
 use Rattle.codes.proofs.Allocations.{Known, AllKnown}
-use Rattle.analyser.specs.SyncReading.{correlation, S, P, share, total-share}
+use Rattle.sync_analyser.specs.SyncReading.{correlation, S, P, share, total-share}
 use Rattle.demands.proofs.SyncOrthogonality.{sync-code, has-code, overlap, orthogonal}
 
 -- ---- a correlation is linear in the chips

@@ -23,10 +23,10 @@ use Rattle.codes.specs.Burst.{burst}
 use Rattle.codes.specs.Refusals.{gives}
 use Rattle.codes.specs.SyncCodes.{Cp, C}
 use Rattle.codes.proofs.Tests.{T-true}
-use Rattle.analyser.specs.declared.Candidate.{Candidate}
-use Rattle.analyser.specs.SyncReading.{of-group, candidate, candidates, share, total-share, score, winner, read-sync-call}
+use Rattle.sync_analyser.specs.declared.Candidate.{Candidate}
+use Rattle.sync_analyser.specs.SyncReading.{of-group, candidate, candidates, share, total-share, score, winner, read-sync-call}
 use Rattle.analyser.specs.Components.{outside}
-use Rattle.analyser.proofs.Leading.{beats-all}
+use Rattle.sync_analyser.proofs.Leading.{beats-all}
 use Rattle.analyser.proofs.Ranges.{none-outside}
 use Rattle.demands.proofs.BurstCorrelations.{agreement, chips, scale, correlation-cong, score-of}
 use Rattle.demands.proofs.Candidates.{has-number, chosen, chosen-known, agrees-less}

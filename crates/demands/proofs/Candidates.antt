@@ -17,8 +17,8 @@ use Rattle.codes.specs.Allocation.{allocation, one-or-two, is-frame-and-half, c
 use Rattle.codes.specs.Range.{each}
 use Rattle.codes.proofs.Allocations.{AllKnown, allocation-known}
 use Rattle.codes.proofs.Tests.{each-at, same, same→eq, T-true}
-use Rattle.analyser.specs.declared.Candidate.{Candidate}
-use Rattle.analyser.specs.SyncReading.{of-group, candidate, candidates, sent}
+use Rattle.sync_analyser.specs.declared.Candidate.{Candidate}
+use Rattle.sync_analyser.specs.SyncReading.{of-group, candidate, candidates, sent}
 use Rattle.demands.proofs.BurstCorrelations.{along, match, heard, agreement}
 
 one-or-other : (F : ℕ → Type 0) → F 1 → F 2 → (n : ℕ) → T (one-or-two n) → F n

@@ -16,7 +16,7 @@ use Rattle.codes.specs.Range.{each}
 use Rattle.codes.specs.SyncCodes.{a, a-signs, b, b-signs, Cp, C, hadamard, hadamard-part, is-sync-code}
 use Rattle.codes.proofs.Tests.{each-at, same, same→eq}
 use Rattle.codes.proofs.Parts.{Cp-parts, C-parts, sync-code-below}
-use Rattle.analyser.specs.SyncReading.{correlation}
+use Rattle.sync_analyser.specs.SyncReading.{correlation}
 
 -- ---- the thirteen codes by one number: 0 is Cp, 1 + i is Ci
 abbrev pub sync-code : ℕ → ℕ → Complex

@@ -1,0 +1,6 @@
+-- The laws of read sync and find, for the proofs of this crate and of those above it.
+pub mod Bounds
+pub mod Products
+pub mod Leading
+pub mod Correlations
+pub mod Shares

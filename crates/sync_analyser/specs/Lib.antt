@@ -1,0 +1,3 @@
+pub mod SyncReading
+pub mod Finding
+pub mod Held

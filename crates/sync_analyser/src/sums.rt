@@ -1,0 +1,52 @@
+// Sums of sixteen with signs: every correlation with a sync code is made of them.
+ghost use mathlib.Core.Path.{_≡_};
+ghost use Prim.Native.Nat.{_+_, _*_, _<_, _≤_};
+ghost use lib.IntN.{pos, _+ℤ_, _*ℤ_};
+ghost use lib.ListN.{length};
+ghost use mir.Syntax.{w64};
+ghost use mir.Val.{SFits};
+ghost use Rattle.complex.specs.Arithmetic.{_+j_, _⊗_, conj};
+ghost use Rattle.complex.specs.Fits.{Within, Both, Bound};
+ghost use Rattle.sync_analyser.specs.Held.{signed-sum};
+use codes::signs::sign_at;
+use complex::Complex;
+
+// a b + c d.
+pub fn sum_of_products(a: i64, b: i64, c: i64, d: i64) -> i64
+    requires { ⌜ SFits w64 (a *ℤ b) × SFits w64 (c *ℤ d) × SFits w64 (a *ℤ b +ℤ c *ℤ d) ⌝ }
+    ensures { λ r. ⌜ r ≡ a *ℤ b +ℤ c *ℤ d ⌝ }
+{
+    a * b + c * d
+}
+
+// s + sign x.
+fn plus_signed(s: i32, sign: i32, x: i32) -> i32
+    requires { ⌜ Within 24000000 s × Within 1 sign × Within 1600000 x ⌝ }
+    ensures { λ r. ⌜ r ≡ s +ℤ sign *ℤ x ⌝ }
+{
+    s + sign * x
+}
+
+// The sum of sixteen entries of x, `step` apart from `from` on, with the signs of a row.
+pub fn signed_sum(x: &[i32], from: usize, step: usize, row: u32) -> i32
+    requires { ⌜ (from + 15 * step < length (now x)) × (length (now x) ≤ 5120) × Bound 1600000 (now x) ⌝ }
+    ensures { λ r. ⌜ r ≡ signed-sum (now (x .entry)) from step row ⌝ }
+{
+    let mut s: i32 = 0;
+    for i in 0..16 {
+        let sign = sign_at(row, i as u32);
+        s = plus_signed(s, sign, x[from + i * step]);
+    }
+    s
+}
+
+// z times 1 - j.
+pub fn times_one_minus_j(z: Complex) -> Complex
+    requires { ⌜ Both 25600000 z ⌝ }
+    ensures { λ r. ⌜ r ≡ z ⊗ conj (pos 1 +j pos 1) ⌝ }
+{
+    Complex {
+        re: z.re + z.im,
+        im: z.im - z.re,
+    }
+}
