@@ -1,9 +1,8 @@
 // The refusals of the bench's calls: a call's number from document 01, or 0.
 ghost use mathlib.Core.Path.{_≡_};
-ghost use mathlib.Core.Bool.{not};
 ghost use Prim.Native.Nat.{_<_, _≤_};
 ghost use Rattle.codes.specs.Range.{any};
-ghost use Rattle.codes.specs.Refusals.{number, _if_};
+ghost use Rattle.codes.specs.Refusals.{number};
 ghost use Rattle.slot.specs.Slot.{bit-count};
 ghost use Rattle.slot.specs.Tables.{view};
 ghost use Rattle.bench.specs.BenchCalls.{bad-gain, close-refusals, has-byte-above-1, load-bits-refusals, open-refusals, set-cell-refusals, set-gain-refusals, set-sync-refusals, some-code};

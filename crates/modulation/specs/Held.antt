@@ -1,6 +1,6 @@
 -- How the code computes what the other files define. Nothing here is document 01's: the contracts of the bench's calls do not name it.
 use lib.IntN.{ℤ, pos, _+ℤ_, _-ℤ_, _*ℤ_}
-use Prim.Native.Nat.{ℕ, _+_, _*_, _-_, _/_, _%_}
+use Prim.Native.Nat.{ℕ, _+_, _*_, _/_, _%_}
 use mathlib.Core.List.{List}
 use mathlib.Core.Bool.{cond}
 use lib.Dec.{eqb}
@@ -16,7 +16,6 @@ use Rattle.codes.specs.Held.{secondary-row, sign-bit}
 use Rattle.codes.specs.Tree.{element, width}
 use Rattle.modulation.specs.declared.Block.{Block}
 use Rattle.modulation.specs.Nodes.{node}
-use Rattle.modulation.specs.Symbols.{symbol}
 
 -- f 0, .., f 15 in a block
 abbrev pub block-of : (ℕ → Complex) → Block

@@ -8,7 +8,6 @@ use mir.Syntax.{w32}
 use mir.Val.{toZ}
 use Rattle.complex.specs.declared.Complex.{Complex}
 use Rattle.complex.specs.Arithmetic.{_+j_, real, _⊗_}
-use Rattle.complex.specs.Buffers.{written}
 use Rattle.complex.specs.Fits.{Both}
 use Rattle.codes.specs.declared.Allocated.{Allocated}
 use Rattle.codes.specs.Signs.{_at_}
