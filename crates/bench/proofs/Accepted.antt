@@ -2,14 +2,14 @@
 use mathlib.Core.Path.{_≡_, sym, ap, subst, _∙_}
 use mathlib.Core.Logic.{_≢_}
 use mathlib.Core.Bool.{true, false, not, _&&_}
-use mathlib.Core.List.{List, _++_}
+use mathlib.Core.List.{List, _∷_, _++_}
 use Prim.Native.Nat.{ℕ, _≤_, _<_}
 use borrow.Author.Tests.{lt-ltb, leb-false, not-false}
 use lib.Dec.{T, leb, leb→le}
 use mir.Facts.{and-yes, fits-below}
 use mir.Syntax.{w16}
 use mir.Val.{Fits}
-use Rattle.codes.specs.Refusals.{refused, gives, Refusal, _otherwise_, outcome, number}
+use Rattle.codes.specs.Refusals.{refused, gives, Refusal, _otherwise_, outcome, number, _if_}
 use Rattle.codes.specs.Tree.{is-code, is-spreading-factor}
 use Rattle.codes.proofs.Refused.{numbered, Passed, passed, accepted, not-accepted, refused-early, passed-early}
 use Rattle.codes.proofs.Factors.{factor-range}
@@ -65,3 +65,8 @@ gain-small g e = leb→le g 4095 (and-yes (leb 1 g) (leb g 4095) (subst T (sym (
 
 pub gain-fits : (g : ℕ) → bad-gain g ≡ false → Fits w16 g
 gain-fits g e = fits-below {n = 4095} tt (gain-small g e)
+
+-- ---- what 3, 4 and 5 let pass is what `with_code` asks
+pub code-and-gain : (Q k g : ℕ) (rs : List Refusal) → Passed (3 if not (is-spreading-factor Q) ∷ 4 if leb Q k ∷ 5 if bad-gain g ∷ rs)
+    → (is-spreading-factor Q ≡ true) × (k < Q) × (g ≤ 4095)
+code-and-gain Q k g rs p = let h = good-code Q k (p .0) (p .1 .0) in (h .factor, h .below, gain-small g (p .1 .1 .0))

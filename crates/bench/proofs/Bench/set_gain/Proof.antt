@@ -1,11 +1,12 @@
 -- `set_gain` meets its contract: a refusal, or the gain, and the bits as they were. Assumes nothing.
 use mathlib.Core.List.{List}
 use borrow.Author.Needs.{needs}
+use lib.ListN.{drop}
 use Rattle.codes.specs.Refusals.{Refusal}
 use Rattle.codes.proofs.Refused.{numbered, Passed}
 use Rattle.slot.specs.Tables.{view}
 use Rattle.bench.specs.BenchCalls.{set-gain-refusals}
-use Rattle.bench.proofs.Accepted.{call-refused, call-accepted, passed-all, good-code, gain-small}
+use Rattle.bench.proofs.Accepted.{call-refused, call-accepted, passed-all, code-and-gain}
 use Rattle.bench.proofs.Bench.set_gain.Statement.{statement}
 use Rattle.bench.proofs.Bench.set_gain.Tie as tie
 
@@ -23,10 +24,7 @@ unfolding numbered
 tests c = passed-all (refusals (c .before .before)) (c .before .set-gain .ensures) tt (c .if1 .left)
 
 with-code-requires : tie.Need-with-code-requires
-with-code-requires c κs =
-    let s = c .before .before .args in
-    let h = good-code (s .q) (s .k) (tests c .0) (tests c .1 .0) in
-    (h .factor, h .below, gain-small (s .gain) (tests c .1 .1 .0))
+with-code-requires c κs = let s = c .before .before in code-and-gain (s .args .q) (s .args .k) (s .args .gain) (drop 3 (refusals s)) (tests c)
 
 returns-2 : tie.Need-returns-2
 unfolding numbered
