@@ -1,6 +1,6 @@
 -- Document 01, "Bench calls". Each call is its refusals, in the document's order, then its change. A refusal that asks for settings speaks of the
--- document's own (`Setup`, by `view`). Load plan is not here yet.
-use Prim.Native.Nat.{ℕ, _+_, _-_, min}
+-- document's own (`Setup`, by `view`).
+use Prim.Native.Nat.{ℕ, suc, _+_, _-_, min}
 use mathlib.Core.List.{List, [], _∷_}
 use mathlib.Core.Bool.{Bool, not, _&&_, _||_, cond}
 use lib.Dec.{eqb, leb, ltb}
@@ -16,11 +16,14 @@ use Rattle.slot.specs.Setup.{Setup, is-open}
 use Rattle.slot.specs.Slot.{slot-length, bit-count, chip}
 use Rattle.slot.specs.Tables.{view}
 use Rattle.bench.specs.declared.Bench.{Bench}
+use Rattle.bench.specs.declared.Channel.{Channel}
 use Rattle.bench.specs.declared.CallAnswer.{CallAnswer}
 use Rattle.bench.specs.declared.CallAnswer.the-variants.{Accepted, Refused}
+use Rattle.bench.specs.declared.PlanAnswer.{PlanAnswer}
+use Rattle.bench.specs.declared.PlanAnswer.the-variants.{Loaded, Refused as NotLoaded}
 use Rattle.bench.specs.declared.DrawAnswer.{DrawAnswer}
 use Rattle.bench.specs.declared.DrawAnswer.the-variants.{Drew, Refused as NotDrawn}
-use Rattle.bench.specs.Changes.{with-gain, with-bits, with-sync, no-sync, closed, with-settings}
+use Rattle.bench.specs.Changes.{with-gain, with-bits, with-sync, no-sync, closed, all-closed, with-settings}
 
 -- "the air: no slot, or a copy of the settings with a position": the copy is `sending`, and counts while `running` is not 0
 abbrev pub under-way : Bench → Bool
@@ -63,6 +66,32 @@ open-refusals s Q k g = 3 if not (is-spreading-factor Q) ∷ 4 if leb Q k ∷ 5 
 abbrev pub open-call : Bench → ℕ → ℕ → ℕ → Answer Bench
 open-call b Q k g =
     open-refusals (view (b .settings)) Q k g otherwise with-settings b (with-bits (with-gain (b .settings) Q k g) Q k [])
+
+-- Load plan: a plan comes as a lent list of channel records (Q, k, gain); it replaces all open codes, or changes nothing. Refuses with 3, 4, 5, 6
+-- as open would for the first record that fails, taken in order against earlier records only, and that record's place. Places count from 0,
+-- bits start as all 0, and an empty list closes everything.
+pub data AnswerAt (A : Type 0) : Type 0 where
+  refused-at : (number place : ℕ) → AnswerAt A
+  loads : A → AnswerAt A
+
+-- open for record after record, the first of them at `place`, each on the bench that the earlier ones left
+unfoldable pub opened-in-turn : ℕ → Bench → List Channel → AnswerAt Bench
+opened-in-turn place b [] = loads b
+opened-in-turn place b (c ∷ cs) =
+    elim (open-call b (c .q) (c .k) (c .gain)) [ refused n ↦ refused-at n place | gives next ↦ opened-in-turn (suc place) next cs ]
+
+abbrev pub load-plan-call : Bench → List Channel → AnswerAt Bench
+load-plan-call b plan = opened-in-turn 0 (with-settings b (all-closed (b .settings))) plan
+
+-- the answer of load plan: number and place, or nothing more
+abbrev pub plan-outcome : AnswerAt Bench → AnswerAt (Unit {0})
+plan-outcome (refused-at n place) = refused-at n place
+plan-outcome (loads new) = loads tt
+
+-- what load plan leaves where it finds b
+abbrev pub plan-left-by : AnswerAt Bench → Bench → Bench
+plan-left-by (refused-at n place) b = b
+plan-left-by (loads new) b = new
 
 -- Close (Q, k). Refuses 3; 4; 7 code not open.
 abbrev pub close-refusals : Setup → ℕ → ℕ → List Refusal
@@ -150,6 +179,10 @@ draw-call b n n′ =
 abbrev pub told-call : CallAnswer → Answer (Unit {0})
 told-call Accepted = gives tt
 told-call (Refused n) = refused n
+
+abbrev pub told-plan : PlanAnswer → AnswerAt (Unit {0})
+told-plan Loaded = loads tt
+told-plan (NotLoaded n place) = refused-at n place
 
 abbrev pub told-draw : DrawAnswer → Answer ℕ
 told-draw (Drew m) = gives m

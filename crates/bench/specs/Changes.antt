@@ -47,5 +47,9 @@ no-sync = record { on = 0; case = 0; frame = 0; half = 0; gp = 0; gs = 0 }
 abbrev pub closed : CellParameter → ℕ → List ℕ → Settings
 closed p t pairs = record { cell = p; kind = t; gains = replicate 31 0; pairs = pairs; sync = no-sync }
 
+-- nothing open; cell, type and sync stay
+abbrev pub all-closed : Settings → Settings
+all-closed s = with-gains s (replicate 31 0)
+
 abbrev pub with-settings : Bench → Settings → Bench
 with-settings b s = record { settings = s; running = b .running; sending = b .sending; position = b .position }

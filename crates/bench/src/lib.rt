@@ -40,6 +40,25 @@ pub struct Answered {
     pub bench: Bench,
 }
 
+// A record of a plan: code (q, k) with its gain.
+#[repr(C)]
+pub struct Channel {
+    pub q: u32,
+    pub k: u32,
+    pub gain: u32,
+}
+
+// Of a refused plan the number, and the place of the record that failed, from 0.
+pub enum PlanAnswer {
+    Loaded,
+    Refused(u32, usize),
+}
+
+pub struct Planned {
+    pub answer: PlanAnswer,
+    pub bench: Bench,
+}
+
 // Of an accepted draw, how many chips it wrote.
 pub enum DrawAnswer {
     Drew(usize),

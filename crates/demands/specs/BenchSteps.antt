@@ -1,0 +1,40 @@
+-- The bench's side of the list: each call is what its contract says of answer, new bench and buffers.
+use lib.IntN.{ℤ}
+use Prim.Native.Nat.{ℕ}
+use mathlib.Core.List.{List}
+use lib.ListN.{length, take}
+use Rattle.complex.specs.Buffers.{Values, written}
+use Rattle.codes.specs.Refusals.{Answer, refused, gives, outcome, after}
+use Rattle.bench.specs.declared.Bench.{Bench}
+use Rattle.bench.specs.BenchCalls.{set-cell-call, open-call, AnswerAt, load-plan-call, plan-outcome, plan-left-by, close-call, set-gain-call, load-bits-call, set-sync-call, clear-sync-call, start-call, Draw, draw-call, counted, left-by}
+use Rattle.demands.specs.Calls.{Call, set-cell, open-code, load-plan, close, set-gain, load-bits, set-sync, clear-sync, start, draw, Told, refused-by, drew, Step, tell, tell-plan}
+
+abbrev pub called : Bench → Answer Bench → Step Bench
+called b r = record { told = tell (outcome r); next = left-by r b }
+
+abbrev pub planned : Bench → AnswerAt Bench → Step Bench
+planned b r = record { told = tell-plan (plan-outcome r); next = plan-left-by r b }
+
+-- a draw's count, and the first so many entries of the buffers as it left them
+abbrev pub tell-draw : Answer ℕ → List ℤ → List ℤ → Told
+tell-draw (refused n) re im = refused-by n
+tell-draw (gives m) re im = drew m (record { re = take m re; im = take m im })
+
+abbrev pub drawn : Bench → List ℤ → List ℤ → Answer Draw → Step Bench
+drawn b re im r =
+    record {
+      told = tell-draw (counted r) (after r re (λ d. written (d .chips .re) re)) (after r im (λ d. written (d .chips .im) im));
+      next = after r b (λ d. d .bench);
+    }
+
+unfoldable pub bench-step : Bench → Call (List ℤ) → Step Bench
+bench-step b (set-cell p t) = called b (set-cell-call b (record { 0 = p }) t)
+bench-step b (open-code Q k g) = called b (open-call b Q k g)
+bench-step b (load-plan plan) = planned b (load-plan-call b plan)
+bench-step b (close Q k) = called b (close-call b Q k)
+bench-step b (set-gain Q k g) = called b (set-gain-call b Q k g)
+bench-step b (load-bits Q k bits) = called b (load-bits-call b Q k bits)
+bench-step b (set-sync case frame half gP gS) = called b (set-sync-call b case frame half gP gS)
+bench-step b clear-sync = called b (clear-sync-call b)
+bench-step b start = called b (start-call b)
+bench-step b (draw re im) = drawn b re im (draw-call b (length re) (length im))

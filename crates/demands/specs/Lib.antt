@@ -1,0 +1,6 @@
+pub mod Calls
+pub mod Reference
+pub mod BenchSteps
+pub mod Slots
+pub mod Fields
+pub mod Instances
