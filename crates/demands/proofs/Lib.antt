@@ -5,3 +5,4 @@ pub mod Candidates
 pub mod BurstSizes
 pub mod BurstReadBack
 pub mod Readings
+pub mod Instances

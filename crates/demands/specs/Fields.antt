@@ -1,0 +1,128 @@
+-- Document 01, "The list and its ledger": a data field drawn whole and read, and what demands 2 and 3 say of it.
+use lib.IntN.{ℤ, pos}
+use Prim.Native.Nat.{ℕ, _+_, _*_, _/_, _≤_}
+use mathlib.Core.Path.{_≡_}
+use mathlib.Core.Bool.{Bool, true, false, not, _&&_}
+use mathlib.Core.List.{List}
+use mathlib.Core.Option.{none, some}
+use lib.Dec.{leb, ltb}
+use lib.ListN.{length, take, drop}
+use Rattle.complex.specs.declared.Complex.{Complex}
+use Rattle.complex.specs.Arithmetic.{real, 𝟎, _⊕_, _⊗_, Σℤ<, squared-size}
+use Rattle.complex.specs.Buffers.{value, Values, in-buffers}
+use Rattle.codes.specs.Range.{each}
+use Rattle.codes.specs.Refusals.{Answer, gives}
+use Rattle.codes.specs.Scrambling.{code-group}
+use Rattle.codes.specs.Burst.{burst-start}
+use Rattle.modulation.specs.Symbols.{pair, symbol}
+use Rattle.slot.specs.Setup.{Channel, Setup, is-some}
+use Rattle.slot.specs.Slot.{burst-type, sync-chip, chip}
+use Rattle.bench.specs.BenchCalls.{related-to-open}
+use Rattle.analyser.specs.Reading.{read-call}
+use Rattle.demands.specs.Reference.{with-sync}
+use Rattle.demands.specs.Slots.{Slot}
+
+-- the two data fields of a slot
+pub data Field : Type 0 where
+  field-1 : Field
+  field-2 : Field
+
+abbrev pub field-length : Setup → Field → ℕ
+field-length s field-1 = burst-type (s .type) .field1
+field-length s field-2 = burst-type (s .type) .field2
+
+-- the chip of the slot at which it starts
+abbrev pub field-start : Setup → Field → ℕ
+field-start s field-1 = 0
+field-start s field-2 = burst-type (s .type) .field1 + burst-type (s .type) .midamble
+
+-- the number of chips of the fields before it
+abbrev pub field-before : Setup → Field → ℕ
+field-before s field-1 = 0
+field-before s field-2 = burst-type (s .type) .field1
+
+-- n entries of a list, from entry `at` on
+abbrev pub part : {A : Type 0} → ℕ → ℕ → List A → List A
+part at n l = take n (drop at l)
+
+abbrev pub field-part : {A : Type 0} → Setup → Field → List A → List A
+field-part s f l = part (field-start s f) (field-length s f) l
+
+-- the chips from chip x to chip x + n - 1 of the slot are drawn
+abbrev pub Drawn : Slot → ℕ → ℕ → Type 0
+Drawn slot x n = x + n ≤ length (slot .chips .re)
+
+-- "A field is drawn whole when all its chips are among them."
+abbrev pub DrawnWhole : Slot → Field → Type 0
+DrawnWhole slot f = let s = slot .settings in Drawn slot (field-start s f) (field-length s f)
+
+-- "It is read from two buffers that hold them in order, for any code, with answer buffers that suffice", of m and m′ entries: `with that start's
+-- cell parameter`
+abbrev pub field-read : Slot → Field → ℕ → ℕ → ℕ → ℕ → Answer Values
+field-read slot f Q k m m′ =
+    let s = slot .settings in
+    read-call (s .cell) Q k (field-part s f (slot .chips .re)) (field-part s f (slot .chips .im)) m m′
+
+abbrev pub reading-count : Setup → Field → ℕ → ℕ
+reading-count s f Q = field-length s f / Q
+
+pub record Suffice (s : Setup) (f : Field) (Q m m′ : ℕ) : Type 0 where
+  pub re : reading-count s f Q ≤ m
+  pub im : reading-count s f Q ≤ m′
+
+-- "A code's own symbols are those of that field, the n-th for reading n."
+abbrev pub own-symbol : Setup → Field → ℕ → Channel → ℕ → Complex
+own-symbol s f Q c n = symbol (pair (c .bits) (field-before s f / Q + n))
+
+-- "each reading of a code open at that start is its spreading factor times its gain times its own symbol"
+abbrev pub own-readings : Setup → Field → ℕ → Channel → Values
+own-readings s f Q c = in-buffers (reading-count s f Q) (λ n. real (pos Q) ⊗ real (pos (c .gain)) ⊗ own-symbol s f Q c n)
+
+-- "and each of a code unrelated to all of those is zero"
+abbrev pub zero-readings : Setup → Field → ℕ → Values
+zero-readings s f Q = in-buffers (reading-count s f Q) (λ n. 𝟎)
+
+-- ---- the sync burst
+-- a burst chip falls at chip x of the slot
+abbrev pub burst-at : Setup → ℕ → Bool
+burst-at s x = let start = burst-start (code-group (s .cell)) in is-some (s .sync) && (leb start x && ltb x (start + 256))
+
+-- none falls at the n chips from chip x on
+abbrev pub no-burst : Setup → ℕ → ℕ → Bool
+no-burst s x n = each n (λ i. not (burst-at s (x + i)))
+
+-- "A sync burst's own reading is what the same read gives for that field with the burst's chips alone, 0 around them."
+abbrev pub burst-read : Setup → Field → ℕ → ℕ → ℕ → ℕ → Answer Values
+burst-read s f Q k m m′ =
+    let b = in-buffers (field-length s f) (λ q. sync-chip (s .cell) (s .sync) (field-start s f + q)) in
+    read-call (s .cell) Q k (b .re) (b .im) m m′
+
+-- what the same read gives for that field of the same settings without sync
+abbrev pub quiet-read : Setup → Field → ℕ → ℕ → ℕ → ℕ → Answer Values
+quiet-read s f Q k m m′ =
+    let b = in-buffers (field-length s f) (λ q. chip (with-sync s none) (field-start s f + q)) in
+    read-call (s .cell) Q k (b .re) (b .im) m m′
+
+-- two lists of n values, added one by one
+abbrev pub added : ℕ → Values → Values → Values
+added n v w = in-buffers n (λ i. value (v .re) (v .im) i ⊕ value (w .re) (w .im) i)
+
+-- "A sync burst adds exactly its own reading."
+pub record BurstAdds (slot : Slot) (f : Field) (Q k m m′ : ℕ) : Type 0 where
+  pub quiet : Values
+  pub own : Values
+  pub quiet-is : quiet-read (slot .settings) f Q k m m′ ≡ gives quiet
+  pub own-is : burst-read (slot .settings) f Q k m m′ ≡ gives own
+  pub sum : field-read slot f Q k m m′ ≡ gives (added (reading-count (slot .settings) f Q) quiet own)
+  -- where the code is open, and where it is unrelated to all open ones
+  pub open-code : (c : Channel) → slot .settings .channel Q k ≡ some c → quiet ≡ own-readings (slot .settings) f Q c
+  pub unrelated-code : related-to-open (slot .settings) Q k ≡ false → quiet ≡ zero-readings (slot .settings) f Q
+
+-- ---- power, hard bits
+-- "the squared components of each 16 data chips add up to": those from chip x of the slot on, as they were drawn
+abbrev pub power-of-16 : Slot → ℕ → ℤ
+power-of-16 slot x = Σℤ< 16 (λ i. squared-size (value (slot .chips .re) (slot .chips .im) (x + i)))
+
+-- the bits of a channel that a field sends
+abbrev pub field-bits : Setup → Field → ℕ → Channel → List ℕ
+field-bits s f Q c = part (2 * (field-before s f / Q)) (2 * reading-count s f Q) (c .bits)

@@ -1,0 +1,72 @@
+-- Document 01, "The list and its ledger": "The settings at a start are the copy that the ledger then makes. The chips drawn after a start are those
+-- that draws write from then to the next accepted start or the list's end, in order, each as its draw left it."
+use lib.IntN.{ℤ}
+use Prim.Native.Nat.{ℕ, _≤_}
+use mathlib.Core.Path.{_≡_}
+use mathlib.Core.List.{List, [], _∷_, _++_}
+use mathlib.Core.Bool.{Bool, true, false, cond}
+use mathlib.Core.Option.{Option, none, some}
+use lib.ListN.{length}
+use Rattle.complex.specs.Buffers.{Values, in-buffers}
+use Rattle.slot.specs.Setup.{Setup}
+use Rattle.slot.specs.Slot.{slot-length, chip}
+use Rattle.bench.specs.BenchCalls.{fresh}
+use Rattle.demands.specs.Calls.{Call, set-cell, open-code, load-plan, close, set-gain, load-bits, set-sync, clear-sync, start, draw, Told, accepted, refused-by, refused-record, drew, told-by}
+use Rattle.demands.specs.Reference.{Reference, fresh-reference, reference-step, fed}
+use Rattle.demands.specs.BenchSteps.{bench-step}
+
+-- an accepted start: the settings at it, and the chips drawn after it
+pub record Slot : Type 0 where
+  pub settings : Setup
+  pub chips : Values
+
+-- an accepted start makes a copy, and no chip is drawn yet
+abbrev pub begun : Option Setup → List Slot → List Slot
+begun none past = past
+begun (some copy) past = record { settings = copy; chips = record { re = []; im = [] } } ∷ past
+
+-- chips that a draw left come behind those drawn since the last accepted start
+abbrev pub extended : Values → List Slot → List Slot
+extended v [] = []
+extended v (x ∷ past) = record { settings = x .settings; chips = record { re = x .chips .re ++ v .re; im = x .chips .im ++ v .im } } ∷ past
+
+abbrev pub is-start : {B : Type 0} → Call B → Bool
+is-start (set-cell p t) = false
+is-start (open-code Q k g) = false
+is-start (load-plan plan) = false
+is-start (close Q k) = false
+is-start (set-gain Q k g) = false
+is-start (load-bits Q k bits) = false
+is-start (set-sync case frame half gP gS) = false
+is-start clear-sync = false
+is-start start = true
+is-start (draw re im) = false
+
+-- what a call adds, by what the bench gave for it; `copy` is the ledger's after the call
+abbrev pub noted : Option Setup → Bool → Told → List Slot → List Slot
+noted copy t accepted past = cond t (begun copy past) past
+noted copy t (refused-by n) past = past
+noted copy t (refused-record n place) past = past
+noted copy t (drew m v) past = extended v past
+
+unfoldable pub slots-from : Reference → List Slot → List (Call (List ℤ)) → List Told → List Slot
+slots-from r past [] told = past
+slots-from r past (c ∷ cs) [] = past
+slots-from r past (c ∷ cs) (t ∷ told) =
+    let next = reference-step r (fed c) .next in
+    slots-from next (noted (next .sending) (is-start c) t past) cs told
+
+-- the accepted starts of a list of calls from a fresh bench, the last one first
+abbrev pub slots : List (Call (List ℤ)) → List Slot
+slots calls = slots-from fresh-reference [] calls (told-by bench-step fresh calls)
+
+-- "The chips drawn after an accepted start are, in order, those of the settings at that start": chips 0 to count - 1
+pub record InOrder (x : Slot) : Type 0 where
+  pub count : ℕ
+  pub at-most : count ≤ slot-length
+  pub chips : x .chips ≡ in-buffers count (chip (x .settings))
+
+-- "no start was accepted yet or all 2,560 chips of the last accepted one are out"
+abbrev pub NothingLeft : List Slot → Type 0
+NothingLeft [] = Unit {0}
+NothingLeft (x ∷ past) = length (x .chips .re) ≡ slot-length
