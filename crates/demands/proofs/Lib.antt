@@ -6,3 +6,5 @@ pub mod BurstSizes
 pub mod BurstReadBack
 pub mod Readings
 pub mod Instances
+pub mod Entries
+pub mod TableLaws
