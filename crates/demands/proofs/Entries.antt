@@ -1,94 +1,122 @@
--- The entries of the pairs that a code owns: what is written for it is read back, and no unrelated code reads it. Assumes nothing.
+-- The entries of the bench's tables that a code owns: each code has its own gain, what is written of its bits is read back, and no unrelated
+-- code reads it. Assumes nothing.
 use mathlib.Core.Path.{_≡_, refl, sym, ap, subst, _∙_}
-use mathlib.Core.Bool.{true, false, cond, true≢false}
+use mathlib.Core.Bool.{Bool, true, false, _&&_, _||_, cond, true≢false}
 use mathlib.Core.List.{List}
 use Prim.Native.Nat.{ℕ, _+_, _*_, _/_, _%_, _<_, _≤_}
 use native.Mathlib.Decide.{ℕ-discrete}
-use native.Mathlib.Nat.{mul-assoc, mod-lt, div-add-mod', div-mul-le-self, lt-mul-div-succ, div-lt-iff-lt-mul, mul-div-cancel-left}
+use native.Mathlib.Nat.{mod-lt, div-add-mod', div-mul-le-self, lt-mul-div-succ, div-lt-iff-lt-mul, mul-div-cancel-left}
 use native.Mathlib.Omega.{arith}
 use borrow.Author.Tests.{eq-eqb, ne-eqb, lt-ltb}
 use mir.Facts.{and-yes}
 use lib.Arith.{digits-div, digits-mod}
-use lib.Dec.{T, eqb, ltb, ltb→lt}
+use lib.Dec.{T, eqb, eqb→eq, ltb, ltb→lt}
 use lib.ListN.{getD}
 use Rattle.complex.proofs.Lists.{listed-at}
+use Rattle.codes.specs.Range.{each, any}
 use Rattle.codes.specs.Tree.{is-code, is-spreading-factor, related, width, overlap}
 use Rattle.codes.proofs.Factors.{of-factors, factor-range}
-use Rattle.codes.proofs.Leaves.{leaves-within, related-overlap}
-use Rattle.codes.proofs.Tests.{T-true}
+use Rattle.codes.proofs.Leaves.{each-code, at-code, related-overlap}
+use Rattle.codes.proofs.Tests.{T-true, neither, none-at}
+use Rattle.modulation.specs.Nodes.{node}
 use Rattle.modulation.specs.Symbols.{pair}
 use Rattle.slot.specs.Slot.{data-chips, bit-count}
 use Rattle.slot.specs.Tables.{place, held-bit}
 use Rattle.slot.proofs.Lengths.{lengths-of}
+use Rattle.bench.specs.BenchCalls.{some-code}
 use Rattle.bench.specs.Changes.{owns, pair-number, pairs-with}
 use Rattle.bench.proofs.Accepted.{Code}
 use Rattle.bench.proofs.Loading.{pairs-in-block}
 
+-- ---- codes
 pub code-of : (Q k : ℕ) → is-code Q k ≡ true → Code Q k
 code-of Q k e =
     let p = and-yes (is-spreading-factor Q) (ltb k Q) (subst T (sym e) tt) in
     let q = T-true (is-spreading-factor Q) (p .0) in
     record { factor = q; below = ltb→lt k Q (p .1); small = factor-range Q q .1; listed = e }
 
--- ---- where pair n of a code stands, which has w entries in each block of 16, from the block's entry k w on
-module _ (w k n : ℕ) (some : 0 < w) (fits : k * w + w ≤ 16) where
-  block-and-entry : let i = 16 * (n / w) + k * w + n % w in (i / 16 ≡ n / w) × (i % 16 ≡ k * w + n % w)
-  block-and-entry = let l = mod-lt n some in (omega arith, omega arith)
+-- a test that passes at no code
+pub no-code-passes : (f : ℕ → ℕ → Bool) → some-code f ≡ false → (Q k : ℕ) → Code Q k → f Q k ≡ false
+no-code-passes f e Q k c =
+    let a = neither (any 1 (f 1) || any 2 (f 2) || any 4 (f 4) || any 8 (f 8)) (any 16 (f 16)) e in
+    let b = neither (any 1 (f 1) || any 2 (f 2) || any 4 (f 4)) (any 8 (f 8)) (a .0) in
+    let d = neither (any 1 (f 1) || any 2 (f 2)) (any 4 (f 4)) (b .0) in
+    let g = neither (any 1 (f 1)) (any 2 (f 2)) (d .0) in
+    none-at Q (f Q) (of-factors (λ Q. any Q (f Q) ≡ false) (g .0) (g .1) (d .1) (b .1) (a .1) Q (c .factor)) k (c .below)
+
+-- ---- gains: two codes never share a node
+own-node : ℕ → ℕ → Bool
+own-node Q k = each-code (λ Q′ k′. cond (eqb (node Q′ k′) (node Q k)) (eqb Q′ Q && eqb k′ k) true)
+
+nodes-test : T (each-code own-node)
+unfolding each-code own-node each
+nodes-test = tt
 
 module _ (Q k : ℕ) (c : Code Q k) where
-  some : 0 < width Q
-  some = pairs-in-block Q k (c .factor) (c .below) .0
+  at-this : (f : ℕ → ℕ → Bool) → T (each-code f) → T (f Q k)
+  at-this f t = at-code f t Q k (subst T (sym (c .factor)) tt) (c .below)
 
-  at : (n : ℕ) → (place Q k n / 16 ≡ n / width Q) × (place Q k n % 16 ≡ k * width Q + n % width Q)
-  at n = block-and-entry (width Q) k n some (leaves-within Q k (c .below))
+  pub node-below : node Q k < 31
+  node-below = omega (arith, c .below, c .small)
 
-  -- the entry of pair n is the code's own, and the entry of this pair
+pub same-node : (Q k Q′ k′ : ℕ) → Code Q k → Code Q′ k′ → node Q′ k′ ≡ node Q k → (Q′ ≡ Q) × (k′ ≡ k)
+unfolding own-node
+same-node Q k Q′ k′ c c′ e =
+    let t = at-this Q′ k′ c′ _ (at-this Q k c own-node nodes-test) in
+    let p = and-yes (eqb Q′ Q) (eqb k′ k) (rw (eq-eqb (node Q′ k′) (node Q k) e) at t) in
+    (eqb→eq Q′ Q (p .0), eqb→eq k′ k (p .1))
+
+-- ---- pairs
+module _ (Q k : ℕ) (c : Code Q k) where
+  -- the code has w entries in each block of 16, from entry k w of the block on
+  abbrev w : ℕ
+  w = width Q
+
+  block : (0 < w) × (k * w + w ≤ 16)
+  block = pairs-in-block Q k (c .factor) (c .below)
+
+  -- where pair n stands: in block n / w
+  at : (n : ℕ) → (n % w < w) × (place Q k n / 16 ≡ n / w) × (place Q k n % 16 ≡ k * w + n % w)
+  at n = let l = mod-lt n (block .0) in (l, omega (arith, block), omega (arith, block))
+
+  -- this entry is the code's own, and that of pair n
   own-entry : (n : ℕ) → (owns Q k (place Q k n) ≡ true) × (pair-number Q (place Q k n) ≡ n)
   own-entry n =
-      let l = mod-lt n some in
-      let e = at n in
-      (rw (e .1, digits-div k l) (eq-eqb k k refl), rw (e .0, e .1, digits-mod k l) (div-add-mod' n (width Q)))
+      let (l, e, f) = at n in
+      (rw (f, digits-div k l) (eq-eqb k k refl), rw (e, f, digits-mod k l) (div-add-mod' n w))
 
-  -- and not that of an unrelated code
+  -- an unrelated code does not own it: the entries that both own are leaves below both
   other-entry : (Q′ k′ n : ℕ) → Code Q′ k′ → related Q k Q′ k′ ≡ false → owns Q′ k′ (place Q k n) ≡ false
   unfolding overlap
-  other-entry Q′ k′ n c′ r = ne-eqb (place Q k n % 16 / width Q′) k′ (λ e. true≢false (sym (met e) ∙ r))
+  other-entry Q′ k′ n c′ r = ne-eqb (i / width Q′) k′ (λ e. true≢false (sym (both e) ∙ r))
     where
-      some′ : 0 < width Q′
-      some′ = pairs-in-block Q′ k′ (c′ .factor) (c′ .below) .0
+      i : ℕ
+      i = place Q k n % 16
 
-      met : place Q k n % 16 / width Q′ ≡ k′ → related Q k Q′ k′ ≡ true
-      met e =
-          let i = place Q k n % 16 in
-          let from : i / width Q′ * width Q′ ≤ i = div-mul-le-self i (width Q′) in
-          let to : i < width Q′ * (i / width Q′ + 1) = lt-mul-div-succ i some′ in
-          let from′ : k′ * width Q′ ≤ i = rw e at from in
-          let to′ : i < width Q′ * (k′ + 1) = rw e at to in
-          let l : n % width Q < width Q = mod-lt n some in
-          let a = at n .1 in
+      both : i / width Q′ ≡ k′ → related Q k Q′ k′ ≡ true
+      both e =
+          let some = pairs-in-block Q′ k′ (c′ .factor) (c′ .below) .0 in
+          let from : k′ * width Q′ ≤ i = rw e at (div-mul-le-self i (width Q′)) in
+          let to : i < width Q′ * (k′ + 1) = rw e at (lt-mul-div-succ i some) in
+          let p = at n in
           related-overlap Q k Q′ k′ (c .below) (c′ .below)
-          ∙ rw (lt-ltb (k * width Q) (k′ * width Q′ + width Q′) (omega arith), lt-ltb (k′ * width Q′) (k * width Q + width Q) (omega arith))
+          ∙ rw (lt-ltb (k * w) (k′ * width Q′ + width Q′) (omega arith), lt-ltb (k′ * width Q′) (k * w + w) (omega arith))
 
-  -- all entries of its bits are in the table
-  count : (t : ℕ) → bit-count t Q ≡ 2 * (data-chips t / 16 * width Q)
+  count : (t : ℕ) → bit-count t Q ≡ 2 * (data-chips t / 16 * w)
   count t =
       let d = data-chips t in
-      let e : Q * width Q ≡ 16 = of-factors (λ Q. Q * width Q ≡ 16) refl refl refl refl refl Q (c .factor) in
+      let e : Q * w ≡ 16 = of-factors (λ Q. Q * width Q ≡ 16) refl refl refl refl refl Q (c .factor) in
       let h : d % 16 ≡ 0 = lengths-of t .chips in
-      let s : 16 * (d / 16) ≡ Q * width Q * (d / 16) = ap (λ (n : ℕ). n * (d / 16)) (sym e) in
-      let r : 2 * d ≡ Q * (2 * (d / 16 * width Q)) = omega arith in
-      ap (λ (n : ℕ). n / Q) r ∙ mul-div-cancel-left (2 * (d / 16 * width Q)) (factor-range Q (c .factor) .0)
+      let s : 16 * (d / 16) ≡ Q * w * (d / 16) = ap (λ (n : ℕ). n * (d / 16)) (sym e) in
+      let r : 2 * d ≡ Q * (2 * (d / 16 * w)) = omega arith in
+      ap (λ (n : ℕ). n / Q) r ∙ mul-div-cancel-left (2 * (d / 16 * w)) (factor-range Q (c .factor) .0)
 
+  -- the pair of each of the code's bits stands in the table
   inside : (t i : ℕ) → i < bit-count t Q → place Q k (i / 2) < 2208
   inside t i l =
-      let d = data-chips t in
-      let n = i / 2 in
       let e = count t in
-      let b = leaves-within Q k (c .below) in
-      let m : n / width Q < d / 16 = div-lt-iff-lt-mul some .1 (omega arith) in
-      let h : d ≤ 2208 = lengths-of t .pairs in
-      let r : n % width Q < width Q = mod-lt n some in
-      omega arith
+      let m : i / 2 / w < data-chips t / 16 = div-lt-iff-lt-mul (block .0) .1 (omega arith) in
+      omega (arith, lengths-of t .pairs, mod-lt (i / 2) (block .0), block)
 
 -- ---- the bits read after bits were written for code (Q, k)
 module _ (pairs : List ℕ) (Q k : ℕ) (c : Code Q k) (bits : List ℕ) (t i : ℕ) where
