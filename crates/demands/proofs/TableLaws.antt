@@ -1,31 +1,26 @@
 -- A change of the bench's tables is, under `view`, document 01's change of the settings. Assumes nothing.
-use mathlib.Core.Path.{_≡_, refl, sym, ap, subst, _∙_}
+use mathlib.Core.Path.{_≡_, refl, sym, ap, _∙_}
 use mathlib.Core.Logic.{_≢_}
-use mathlib.Core.Bool.{Bool, true, false, _&&_, _||_, cond, true≢false, false≢true}
+use mathlib.Core.Bool.{Bool, true, false, _&&_, cond, false≢true}
 use mathlib.Core.List.{List, []}
 use mathlib.Core.Option.{Option, none, some}
 use Prim.Native.Nat.{ℕ, zero, suc, _<_, _≤_}
-use native.Mathlib.Decide.{ℕ-discrete, decLt}
+use native.Mathlib.Decide.{ℕ-discrete}
 use native.Mathlib.Omega.{arith}
-use borrow.Author.Tests.{eq-eqb, ne-eqb, lt-leb, eqb-true, eqb-false}
-use mir.Facts.{and-yes}
-use lib.Dec.{T, eqb, eqb→eq}
-use lib.ListN.{length, getD, set, replicate, length-replicate, getD-replicate, List·getD-eq-default}
+use borrow.Author.Tests.{eq-eqb, ne-eqb, lt-leb}
+use lib.Dec.{eqb}
+use lib.ListN.{length, getD, replicate, length-replicate}
 use lib.Seq.{ext-getD, getD-set-same, getD-set-other, set-getD}
 use Rattle.complex.specs.Buffers.{listed}
 use Rattle.complex.proofs.Lists.{length-listed, listed-at, listed-cong}
 use Rattle.codes.specs.declared.CellParameter.{CellParameter}
-use Rattle.codes.specs.Range.{each, any}
-use Rattle.codes.specs.Tree.{is-code, is-spreading-factor, related}
-use Rattle.codes.proofs.Factors.{of-factors, factor-range}
-use Rattle.codes.proofs.Leaves.{each-code, at-code}
-use Rattle.codes.proofs.Tests.{neither, none-at}
+use Rattle.codes.specs.Tree.{is-code, related}
 use Rattle.modulation.specs.Nodes.{node}
 use Rattle.slot.specs.declared.Settings.{Settings}
 use Rattle.slot.specs.Setup.{Channel, Setup, is-some, is-open}
 use Rattle.slot.specs.Slot.{bit-count}
 use Rattle.slot.specs.Tables.{held-bit, held-channel, view-sync, view-channel, view}
-use Rattle.bench.specs.BenchCalls.{related-to-open, some-code}
+use Rattle.bench.specs.BenchCalls.{related-to-open}
 use Rattle.bench.specs.Changes as Tables
 use Rattle.bench.proofs.Accepted.{Code}
 use Rattle.demands.specs.Reference.{cell-set, with-channel, opened, closed, changed, gain-set, bits-loaded, with-sync, nothing-open}
@@ -43,20 +38,18 @@ by-channels : (s : Setup) (f g : ℕ → ℕ → Option Channel) → ((Q k : ℕ
 by-channels s f g h = λ i. with-channels s (λ Q k. h Q k i)
 
 -- ---- nothing open, and sync
-no-gain : (n : ℕ) → _≡_ {A = ℕ} (getD (replicate 31 0) n 0) 0
-no-gain n = go (decLt n 31)
-  where
-    go : Dec (n < 31) → _≡_ {A = ℕ} (getD (replicate 31 0) n 0) 0
-    go (yes l) = getD-replicate 31 n 0 0 l
-    go (no l) = List·getD-eq-default (replicate 31 0) 0 {n = n} (omega arith)
+zero-at : (n i : ℕ) → _≡_ {A = ℕ} (getD (replicate n 0) i 0) 0
+zero-at zero i = refl
+zero-at (suc n) zero = refl
+zero-at (suc n) (suc i) = zero-at n i
 
 none-held : (s : Settings) (Q k : ℕ) → view-channel (Tables.all-closed s) Q k ≡ none
 unfolding view-channel
-none-held s Q k = go (is-code Q k)
+none-held s Q k = rw (zero-at 31 (node Q k)) (either (is-code Q k))
   where
-    go : (b : Bool) → cond b (held-channel (getD (replicate 31 0) (node Q k) 0) (listed (bit-count (s .kind) Q) (held-bit (s .pairs) Q k))) none ≡ none
-    go true = ap (λ (g : ℕ). held-channel g (listed (bit-count (s .kind) Q) (held-bit (s .pairs) Q k))) (no-gain (node Q k))
-    go false = refl
+    either : (b : Bool) → _≡_ {A = Option Channel} (cond b none none) none
+    either true = refl
+    either false = refl
 
 pub view-nothing-open : (s : Settings) → view (Tables.all-closed s) ≡ nothing-open (view s)
 unfolding view
@@ -115,6 +108,9 @@ module _ (s : Settings) (gains : length (s .gains) ≡ 31) (Q k : ℕ) (c : is-c
   own : Code Q k
   own = code-of Q k c
 
+  abbrev Other : ℕ → ℕ → Type 0
+  Other Q′ k′ = (Q′ ≡ Q) × (k′ ≡ k) → ⊥
+
   -- the bits that the pairs hold of a code
   abbrev bits-in : List ℕ → ℕ → ℕ → List ℕ
   bits-in pairs Q k = listed (bit-count (s .kind) Q) (held-bit pairs Q k)
@@ -129,9 +125,9 @@ module _ (s : Settings) (gains : length (s .gains) ≡ 31) (Q k : ℕ) (c : is-c
 
   -- the bits of every other open code stay
   abbrev OthersStay : List ℕ → Type 0
-  OthersStay pairs = (Q′ k′ : ℕ) → ((Q′ ≡ Q) × (k′ ≡ k) → ⊥) → is-open (view s) Q′ k′ ≡ true → bits-in pairs Q′ k′ ≡ bits-in (s .pairs) Q′ k′
+  OthersStay pairs = (Q′ k′ : ℕ) → Other Q′ k′ → is-open (view s) Q′ k′ ≡ true → bits-in pairs Q′ k′ ≡ bits-in (s .pairs) Q′ k′
 
-  other-channel : (g : ℕ) (pairs : List ℕ) → OthersStay pairs → (Q′ k′ : ℕ) → ((Q′ ≡ Q) × (k′ ≡ k) → ⊥) → view-channel (after g pairs) Q′ k′ ≡ view-channel s Q′ k′
+  other-channel : (g : ℕ) (pairs : List ℕ) → OthersStay pairs → (Q′ k′ : ℕ) → Other Q′ k′ → view-channel (after g pairs) Q′ k′ ≡ view-channel s Q′ k′
   unfolding view view-channel
   other-channel g pairs h Q′ k′ d = go (is-code Q′ k′) refl
     where
@@ -158,7 +154,7 @@ module _ (s : Settings) (gains : length (s .gains) ≡ 31) (Q k : ℕ) (c : is-c
       all-listed (bit-count (s .kind) Q) _ new l (λ i m. own-bit (s .pairs) Q k own bits (s .kind) i b m ∙ h i m)
 
   -- and not those of others, which are unrelated
-  others-stay : (bits : List ℕ) → ((Q′ k′ : ℕ) → ((Q′ ≡ Q) × (k′ ≡ k) → ⊥) → is-open (view s) Q′ k′ ≡ true → related Q′ k′ Q k ≡ false)
+  others-stay : (bits : List ℕ) → ((Q′ k′ : ℕ) → Other Q′ k′ → is-open (view s) Q′ k′ ≡ true → related Q′ k′ Q k ≡ false)
       → OthersStay (Tables.pairs-with (s .pairs) Q k bits)
   others-stay bits h Q′ k′ d o =
       listed-cong (bit-count (s .kind) Q′) _ _
@@ -169,7 +165,7 @@ module _ (s : Settings) (gains : length (s .gains) ≡ 31) (Q k : ℕ) (c : is-c
   view-opened g d r =
       let n = bit-count (s .kind) Q in
       changed-to g (Tables.pairs-with (s .pairs) Q k []) _
-      (ap (held-channel g) (own-bits [] (replicate n 0) (λ i. omega arith) (length-replicate n 0) (λ i l. sym (getD-replicate n i 0 0 l))) ∙ some-held g _ d)
+      (ap (held-channel g) (own-bits [] (replicate n 0) (λ i. omega arith) (length-replicate n 0) (λ i _. sym (zero-at n i))) ∙ some-held g _ d)
       (others-stay [] (λ Q′ k′ _ o. rw o at (no-code-passes (λ Q′ k′. is-open (view s) Q′ k′ && related Q′ k′ Q k) r Q′ k′ (open-is-code s Q′ k′ o))))
 
   pub view-closed : view (Tables.with-gain s Q k 0) ≡ closed (view s) Q k
