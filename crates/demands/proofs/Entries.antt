@@ -102,6 +102,7 @@ module _ (Q k : ℕ) (c : Code Q k) where
           related-overlap Q k Q′ k′ (c .below) (c′ .below)
           ∙ rw (lt-ltb (k * w) (k′ * width Q′ + width Q′) (omega arith), lt-ltb (k′ * width Q′) (k * w + w) (omega arith))
 
+  -- 2 w bits a block
   count : (t : ℕ) → bit-count t Q ≡ 2 * (data-chips t / 16 * w)
   count t =
       let d = data-chips t in
@@ -135,15 +136,15 @@ module _ (pairs : List ℕ) (Q k : ℕ) (c : Code Q k) (bits : List ℕ) (t i : 
   pub own-bit : ((j : ℕ) → getD bits j 0 ≤ 1) → i < bit-count t Q → held-bit new Q k i ≡ getD bits i 0
   own-bit small l =
       let own = own-entry Q k c (i / 2) in
-      ap bit (entry (place Q k (i / 2)) (inside Q k c t i l) ∙ rw (own .0, own .1)) ∙ go (ℕ-discrete (i % 2) 0)
+      ap bit (entry (place Q k (i / 2)) (inside Q k c t i l) ∙ rw (own .0, own .1))
+      ∙ go (small (2 * (i / 2))) (small (2 * (i / 2) + 1)) (ℕ-discrete (i % 2) 0)
     where
-      go : Dec (i % 2 ≡ 0) → bit (pair bits (i / 2)) ≡ getD bits i 0
-      go (yes e) =
-          let f : i ≡ 2 * (i / 2) = omega arith in
-          rw (eq-eqb (i % 2) 0 e) (omega (arith, small (2 * (i / 2)), small (2 * (i / 2) + 1), ap (λ (j : ℕ). getD bits j 0) f))
-      go (no e) =
-          let f : i ≡ 2 * (i / 2) + 1 = omega arith in
-          rw (ne-eqb (i % 2) 0 e) (omega (arith, small (2 * (i / 2)), small (2 * (i / 2) + 1), ap (λ (j : ℕ). getD bits j 0) f))
+      given : ℕ → ℕ
+      given j = getD bits j 0
+
+      go : given (2 * (i / 2)) ≤ 1 → given (2 * (i / 2) + 1) ≤ 1 → Dec (i % 2 ≡ 0) → bit (pair bits (i / 2)) ≡ given i
+      go a b (yes e) = let f : 2 * (i / 2) ≡ i = omega arith in rw (eq-eqb (i % 2) 0 e) (omega (arith, ap given f))
+      go a b (no e) = let f : 2 * (i / 2) + 1 ≡ i = omega arith in rw (ne-eqb (i % 2) 0 e) (omega (arith, ap given f))
 
   -- of an unrelated code the old ones
   pub other-bit : (Q′ k′ : ℕ) → Code Q′ k′ → related Q′ k′ Q k ≡ false → i < bit-count t Q′ → held-bit new Q′ k′ i ≡ held-bit pairs Q′ k′ i
