@@ -6,3 +6,5 @@ pub mod Unrelated
 pub mod Weights
 pub mod Spreading
 pub mod DataReadings
+pub mod Hardened
+pub mod DataPower
