@@ -2,8 +2,6 @@
 use mathlib.Core.Path.{_≡_, refl, sym, ap, _∙_, subst}
 use mathlib.Core.Bool.{Bool, true, _&&_}
 use Prim.Native.Nat.{ℕ, _^_, _<_}
-use native.Mathlib.Omega.{arith}
-use native.Mathlib.Decide.{ℕ-discrete}
 use borrow.Author.Tests.{lt-ltb}
 use mir.Facts.{and-yes}
 use lib.Dec.{T, eqb, eqb→eq, ltb, ltb→lt, lit<}
@@ -41,14 +39,17 @@ module _ (l : ℕ) (h : l < 5) where
   at-level : T (is-spreading-factor (2 ^ l)) × T (eqb (level (2 ^ l)) l)
   at-level = and-yes (is-spreading-factor (2 ^ l)) (eqb (level (2 ^ l)) l) (each-at 5 (λ l. is-spreading-factor (2 ^ l) && eqb (level (2 ^ l)) l) levels-test l h)
 
-  code-at : (k : ℕ) → k < 2 ^ l → is-code (2 ^ l) k ≡ true
-  code-at k g = rw (T-true (is-spreading-factor (2 ^ l)) (at-level .0), lt-ltb k (2 ^ l) g)
+  pub factor-at : is-spreading-factor (2 ^ l) ≡ true
+  factor-at = T-true (is-spreading-factor (2 ^ l)) (at-level .0)
 
-  own-level : level (2 ^ l) ≡ l
+  code-at : (k : ℕ) → k < 2 ^ l → is-code (2 ^ l) k ≡ true
+  code-at k g = rw (factor-at, lt-ltb k (2 ^ l) g)
+
+  pub own-level : level (2 ^ l) ≡ l
   own-level = eqb→eq (level (2 ^ l)) l (at-level .1)
 
 -- ---- sums over all codes: level by level
-by-level : (f : ℕ → ℕ → Complex) → over-codes f ≡ Σ< 5 (λ l. Σ< (2 ^ l) (f (2 ^ l)))
+pub by-level : (f : ℕ → ℕ → Complex) → over-codes f ≡ Σ< 5 (λ l. Σ< (2 ^ l) (f (2 ^ l)))
 unfolding Σ<
 by-level f = ap (λ (x : Complex). x ⊕ Σ< 2 (f 2) ⊕ Σ< 4 (f 4) ⊕ Σ< 8 (f 8) ⊕ Σ< 16 (f 16)) (sym (𝟎-⊕ (Σ< 1 (f 1))))
 

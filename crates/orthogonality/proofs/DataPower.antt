@@ -7,7 +7,7 @@ use native.Mathlib.Numerals.{add-one}
 use native.Mathlib.Omega.{arith}
 use lib.IntN.{ℤ, pos, negℤ, _+ℤ_, _*ℤ_, negℤ-negℤ, *ℤ-comm, +ℤ-invl}
 use Rattle.complex.specs.declared.Complex.{Complex}
-use Rattle.complex.specs.Arithmetic.{real, 𝟎, 𝟏, _⊕_, _⊗_, conj, Σ<, Σℤ<, squared-size}
+use Rattle.complex.specs.Arithmetic.{real, 𝟏, _⊕_, _⊗_, conj, Σ<, Σℤ<, squared-size}
 use Rattle.complex.proofs.Integers.{*ℤ-negℤ}
 use Rattle.complex.proofs.Ring.{by-components, products, ⊗-assoc, 𝟎-⊗, ⊗-𝟎, 𝟏-⊗, ⊕-⊗, conj-⊗, conj-real, real-+ℤ, real-*ℤ}
 use Rattle.complex.proofs.Sums.{Σ-cong, Σ-blocks, ⊗-Σ, real-Σ}

@@ -8,7 +8,7 @@ use native.Mathlib.Nat.{lt-of-not-le}
 use lib.Dec.{T}
 use lib.IntN.{pos}
 use Rattle.complex.specs.declared.Complex.{Complex}
-use Rattle.complex.specs.Arithmetic.{real, 𝟎, _⊗_, conj, Σ<}
+use Rattle.complex.specs.Arithmetic.{real, 𝟎, _⊗_, conj}
 use Rattle.complex.proofs.Ring.{products, ⊗-assoc, 𝟎-⊗, ⊗-𝟎}
 use Rattle.complex.proofs.Sums.{Σ-𝟎, Σ-cong}
 use Rattle.codes.specs.Range.{each}
@@ -17,7 +17,7 @@ use Rattle.codes.specs.Tree.{is-code, element, related, at-or-above}
 use Rattle.codes.proofs.Leaves.{each-code}
 use Rattle.codes.proofs.Tests.{T-true}
 use Rattle.modulation.specs.Symbols.{pair, symbol}
-use Rattle.slot.specs.Setup.{Channel, Setup, is-open, is-some}
+use Rattle.slot.specs.Setup.{Channel, Setup, is-some}
 use Rattle.slot.specs.Slot.{over-codes, channel-chip, data-chip}
 use Rattle.analyser.specs.Reading.{reading}
 use Rattle.orthogonality.proofs.Codes.{at-every-code, over-cong, over-one, ⊗-over, Σ-over}

@@ -1,5 +1,5 @@
 -- A code's own reading hardens to the pair that was sent. Assumes nothing.
-use mathlib.Core.Path.{_≡_, refl, sym, ap, _∙_, subst}
+use mathlib.Core.Path.{_≡_, refl, sym, ap, _∙_}
 use mathlib.Core.Bool.{Bool, true, _||_}
 use mathlib.Core.Logic.{_≢_}
 use Prim.Native.Nat.{ℕ, zero, suc, _*_, _<_, _≤_}
@@ -8,7 +8,7 @@ use native.Mathlib.Nat.{mul-pos}
 use native.Mathlib.Omega.{arith}
 use borrow.Author.Tests.{ne-eqb}
 use lib.Dec.{T, eqb}
-use lib.IntN.{ℤ, pos, negℤ, _*ℤ_}
+use lib.IntN.{ℤ, pos, _*ℤ_}
 use lib.Signed.{leZ, ltZ}
 use Rattle.complex.specs.declared.Complex.{Complex}
 use Rattle.complex.specs.Arithmetic.{real, 𝟎, 𝟏, 𝐣, _⊗_}
@@ -18,7 +18,6 @@ use Rattle.complex.proofs.Ring.{real-*ℤ, real-⊗}
 use Rattle.codes.specs.Range.{each}
 use Rattle.codes.proofs.Tests.{each-at, T-true}
 use Rattle.modulation.specs.Symbols.{symbol}
-use Rattle.analyser.specs.Held.{Peaks}
 use Rattle.analyser.specs.Hardening.{pair-score, hard-pair}
 use Rattle.analyser.proofs.Choosing.{peaks-is}
 

@@ -6,5 +6,8 @@ pub mod Unrelated
 pub mod Weights
 pub mod Spreading
 pub mod DataReadings
+pub mod Counting
 pub mod Hardened
 pub mod DataPower
+pub mod SixteenCodes
+pub mod DataSizes

@@ -1,13 +1,13 @@
 -- What a reading hears of the symbols that one code spreads: its own come back Q times, those of an unrelated code not at all.
 -- Assumes nothing.
-use mathlib.Core.Path.{_≡_, refl, sym, ap, _∙_, subst}
-use mathlib.Core.Bool.{Bool, true, false}
+use mathlib.Core.Path.{_≡_, sym, _∙_, subst}
+use mathlib.Core.Bool.{true, false}
 use Prim.Native.Nat.{ℕ, _+_, _*_, _/_, _%_, _<_}
 use native.Mathlib.Omega.{arith}
 use lib.Dec.{T}
-use lib.IntN.{ℤ, pos, _*ℤ_}
+use lib.IntN.{pos, _*ℤ_}
 use Rattle.complex.specs.declared.Complex.{Complex}
-use Rattle.complex.specs.Arithmetic.{real, 𝟎, _⊗_, conj, Σ<, Σℤ<}
+use Rattle.complex.specs.Arithmetic.{real, 𝟎, _⊗_, conj, Σℤ<}
 use Rattle.complex.proofs.Ring.{products, 𝟏-⊗, ⊗-comm, real-*ℤ}
 use Rattle.complex.proofs.Sums.{Σ-cong, ⊗-Σ, real-Σ}
 use Rattle.codes.specs.Signs.{_at_}

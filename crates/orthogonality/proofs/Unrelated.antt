@@ -1,7 +1,7 @@
 -- Settings in which the open codes are unrelated, as the refusals of open and load plan keep them. Assumes nothing.
 use mathlib.Core.Path.{_≡_}
 use mathlib.Core.Bool.{true, false}
-use mathlib.Core.Option.{Option, some}
+use mathlib.Core.Option.{some}
 use Prim.Native.Nat.{ℕ, _≤_}
 use lib.ListN.{getD}
 use Rattle.codes.specs.Tree.{is-code, related}
