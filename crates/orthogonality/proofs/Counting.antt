@@ -1,10 +1,13 @@
 -- Sums of natural numbers, and counting a table by rows and by columns. Assumes nothing.
-use mathlib.Core.Path.{_≡_, refl, sym}
+use mathlib.Core.Path.{_≡_, refl, sym, _∙_}
+use mathlib.Core.Bool.{Bool, true, false}
 use mathlib.Core.Logic.{_≢_}
 use Prim.Native.Nat.{ℕ, zero, suc, _+_, _*_, _<_, _≤_}
-use native.Mathlib.Decide.{ℕ-discrete}
+use native.Mathlib.Decide.{ℕ-discrete, decLe}
 use native.Mathlib.Nat.{not-suc-le-zero, le-refl, le-trans}
 use native.Mathlib.Omega.{arith}
+use borrow.Author.Tests.{eqb-true, eq-eqb}
+use lib.Dec.{eqb}
 use Rattle.orthogonality.specs.Gains.{Σℕ<}
 
 module _ (f g : ℕ → ℕ) where
@@ -19,7 +22,7 @@ module _ (f g : ℕ → ℕ) where
   sum-+ (suc n) = omega (arith, sum-+ n)
 
 -- n equal terms
-pub sum-same : (n b : ℕ) → Σℕ< n (λ i. b) ≡ n * b
+sum-same : (n b : ℕ) → Σℕ< n (λ i. b) ≡ n * b
 unfolding Σℕ<
 sum-same zero b = omega arith
 sum-same (suc n) b = omega (arith, sum-same n b)
@@ -31,7 +34,7 @@ module _ (f : ℕ → ℕ) where
   sum-zero (suc n) h = omega (arith, sum-zero n (λ i l. h i (omega arith)), h n (omega arith))
 
   -- a term is at most the sum
-  pub term-le : (n k : ℕ) → k < n → f k ≤ Σℕ< n f
+  term-le : (n k : ℕ) → k < n → f k ≤ Σℕ< n f
   unfolding Σℕ<
   term-le zero k l = absurd (not-suc-le-zero l)
   term-le (suc n) k l = pick (ℕ-discrete n k) (λ m. term-le n k m)
@@ -62,3 +65,33 @@ pub by-columns : (n m b : ℕ) (f : ℕ → ℕ → ℕ) (row : ℕ → ℕ) →
 by-columns n m b f row r h a =
     le-trans (sum-le row (λ i. Σℕ< m (f i)) n r)
     (rw (sum-swap n m f, ← (sum-same m b)) (sum-le (λ x. Σℕ< n (λ i. f i x)) (λ x. b) m (λ x l. sum-alone (λ i. f i x) n b (λ i k. h i x k l) (λ i j k k′. a i j x k k′ l))))
+
+-- ---- n different numbers below m: there are at most m of them
+abbrev count : Bool → ℕ
+count true = 1
+count false = 0
+
+count-le : (t : Bool) → count t ≤ 1
+count-le true = le-refl 1
+count-le false = omega arith
+
+pub pigeonhole : (n m : ℕ) (f : ℕ → ℕ) → ((i : ℕ) → i < n → f i < m) → ((i j : ℕ) → i < j → j < n → f i ≢ f j) → n ≤ m
+pigeonhole n m f h a =
+    omega (
+      arith,
+      sum-same n 1,
+      by-columns n m 1 (λ i x. count (eqb (f i) x)) (λ i. 1) (λ i l. le-trans (here i) (term-le (λ x. count (eqb (f i) x)) m (f i) (h i l)))
+          (λ i x l g. count-le (eqb (f i) x)) (λ i j x l g k d. other i j x l g d (eqb (f i) x) refl (eqb (f j) x) refl),
+    )
+  where
+    here : (i : ℕ) → 1 ≤ count (eqb (f i) (f i))
+    here i = rw (eq-eqb (f i) (f i) refl) (le-refl 1)
+
+    differ : (i j : ℕ) → i < n → j < n → i ≢ j → Dec (i ≤ j) → f i ≢ f j
+    differ i j l g d (yes k) e = a i j (omega arith) g e
+    differ i j l g d (no k) e = a j i (omega arith) l (sym e)
+
+    other : (i j x : ℕ) → i < n → j < n → i ≢ j → (s : Bool) → eqb (f i) x ≡ s → (t : Bool) → eqb (f j) x ≡ t → count s ≢ 0 → count t ≡ 0
+    other i j x l g d false e t e′ o = absurd (o refl)
+    other i j x l g d true e false e′ o = refl
+    other i j x l g d true e true e′ o = absurd (differ i j l g d (decLe i j) (eqb-true (f i) x e ∙ sym (eqb-true (f j) x e′)))

@@ -24,7 +24,7 @@ use Rattle.slot.specs.Setup.{Channel, Setup, is-open}
 use Rattle.slot.specs.Slot.{over-codes, channel-chip, data-chip}
 use Rattle.orthogonality.specs.Gains.{Σℕ<}
 use Rattle.orthogonality.proofs.Codes.{by-level}
-use Rattle.orthogonality.proofs.SixteenCodes.{sixteen-times}
+use Rattle.orthogonality.proofs.SixteenCodes.{codes-sum, sixteen-times}
 use Rattle.orthogonality.proofs.Unrelated.{Unrelated, EachOpen, Gain}
 
 nothing : Both 0 𝟎
@@ -37,10 +37,11 @@ unfolding Σ< Σℕ<
 sum-within zero f k h = nothing
 sum-within (suc n) f k h = both-⊕ (sum-within n f k (λ i l. h i (omega arith))) (h n (omega arith))
 
-over-within : (f : ℕ → ℕ → Complex) (k : ℕ → ℕ → ℕ) → ((Q i : ℕ) → Both (k Q i) (f Q i)) → Both (Σℕ< 5 (λ l. Σℕ< (2 ^ l) (k (2 ^ l)))) (over-codes f)
+over-within : (f : ℕ → ℕ → Complex) (k : ℕ → ℕ → ℕ) → ((Q i : ℕ) → Both (k Q i) (f Q i)) → Both (codes-sum k) (over-codes f)
 over-within f k h =
-    subst (Both (Σℕ< 5 (λ l. Σℕ< (2 ^ l) (k (2 ^ l))))) (sym (by-level f))
-    (sum-within 5 (λ l. Σ< (2 ^ l) (f (2 ^ l))) (λ l. Σℕ< (2 ^ l) (k (2 ^ l))) (λ l m. sum-within (2 ^ l) (f (2 ^ l)) (k (2 ^ l)) (λ i g. h (2 ^ l) i)))
+    subst (Both (codes-sum k)) (sym (by-level f))
+    (sum-within 5 (λ l. Σ< (2 ^ l) (f (2 ^ l))) (λ l. Σℕ< (2 ^ l) (k (2 ^ l)))
+    (λ l m. sum-within (2 ^ l) (f (2 ^ l)) (k (2 ^ l)) (λ i g. h (2 ^ l) i)))
 
 -- a gain times a value
 pub gained-within : {k : ℕ} {x : Complex} → Both k x → (g : ℕ) → Both (g * k) (real (pos g) ⊗ x)
@@ -79,9 +80,11 @@ module _ (s : Setup) (u : Unrelated s) (d : EachOpen s Gain) where
   gain : ℕ → ℕ → ℕ
   gain Q k = gain-of (s .channel Q k)
 
-  gains-within : Σℕ< 5 (λ l. Σℕ< (2 ^ l) (gain (2 ^ l))) ≤ 65520
+  gains-within : codes-sum gain ≤ 65520
   unfolding gain
-  gains-within = sixteen-times gain 4095 (λ Q k c. small Q k c (s .channel Q k) refl) (λ Q k Q′ k′ c c′ o o′ r. u Q′ k′ c′ (opened Q′ k′ (s .channel Q′ k′) refl o′) Q k c (opened Q k (s .channel Q k) refl o) r .0)
+  gains-within =
+      sixteen-times gain 4095 (λ Q k c. small Q k c (s .channel Q k) refl)
+      (λ Q k Q′ k′ c c′ o o′ r. u Q′ k′ c′ (opened Q′ k′ (s .channel Q′ k′) refl o′) Q k c (opened Q k (s .channel Q k) refl o) r .0)
     where
       small : (Q k : ℕ) → is-code Q k ≡ true → (o : Option Channel) → s .channel Q k ≡ o → gain-of o ≤ 4095
       small Q k c none e = omega arith
