@@ -37,8 +37,11 @@ levels-test = tt
 
 module _ (l : ℕ) (h : l < 5) where
   at-level : T (is-spreading-factor (2 ^ l)) × T (eqb (level (2 ^ l)) l)
-  at-level = and-yes (is-spreading-factor (2 ^ l)) (eqb (level (2 ^ l)) l) (each-at 5 (λ l. is-spreading-factor (2 ^ l) && eqb (level (2 ^ l)) l) levels-test l h)
+  at-level =
+      and-yes (is-spreading-factor (2 ^ l)) (eqb (level (2 ^ l)) l)
+      (each-at 5 (λ l. is-spreading-factor (2 ^ l) && eqb (level (2 ^ l)) l) levels-test l h)
 
+  -- and 2 to the power of 0 to 4 is a factor of that level
   pub factor-at : is-spreading-factor (2 ^ l) ≡ true
   factor-at = T-true (is-spreading-factor (2 ^ l)) (at-level .0)
 
@@ -75,7 +78,8 @@ module _ (f : ℕ → ℕ → Complex) where
       ∙ sym (by-level (λ Q k. conj (f Q k)))
 
   -- every term but that of one code is 0
-  pub over-one : (Q k : ℕ) → is-code Q k ≡ true → ((Q′ k′ : ℕ) → is-code Q′ k′ ≡ true → ((Q′ ≡ Q) × (k′ ≡ k) → ⊥) → f Q′ k′ ≡ 𝟎) → over-codes f ≡ f Q k
+  pub over-one : (Q k : ℕ) → is-code Q k ≡ true
+      → ((Q′ k′ : ℕ) → is-code Q′ k′ ≡ true → ((Q′ ≡ Q) × (k′ ≡ k) → ⊥) → f Q′ k′ ≡ 𝟎) → over-codes f ≡ f Q k
   over-one Q k e h =
       by-level f
       ∙ Σ-one 5 (λ l. Σ< (2 ^ l) (f (2 ^ l))) (level Q) (o .0)

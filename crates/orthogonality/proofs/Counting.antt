@@ -64,7 +64,8 @@ pub by-columns : (n m b : ℕ) (f : ℕ → ℕ → ℕ) (row : ℕ → ℕ) →
     → ((i x : ℕ) → i < n → x < m → f i x ≤ b) → ((i j x : ℕ) → i < n → j < n → x < m → i ≢ j → f i x ≢ 0 → f j x ≡ 0) → Σℕ< n row ≤ m * b
 by-columns n m b f row r h a =
     le-trans (sum-le row (λ i. Σℕ< m (f i)) n r)
-    (rw (sum-swap n m f, ← (sum-same m b)) (sum-le (λ x. Σℕ< n (λ i. f i x)) (λ x. b) m (λ x l. sum-alone (λ i. f i x) n b (λ i k. h i x k l) (λ i j k k′. a i j x k k′ l))))
+    (rw (sum-swap n m f, ← (sum-same m b))
+    (sum-le (λ x. Σℕ< n (λ i. f i x)) (λ x. b) m (λ x l. sum-alone (λ i. f i x) n b (λ i k. h i x k l) (λ i j k k′. a i j x k k′ l))))
 
 -- ---- n different numbers below m: there are at most m of them
 abbrev count : Bool → ℕ

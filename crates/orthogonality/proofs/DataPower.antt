@@ -60,12 +60,15 @@ unfolding gained
 gained-power none b n = rw (𝟎-⊗, real-zero)
 gained-power (some c) b n =
     arrange (real (pos (c .gain))) (symbol (pair (c .bits) n))
-    ∙ rw (symbol-unit (pair (c .bits) n) (omega (arith, b c refl (2 * n), b c refl (2 * n + 1))), 𝟏-⊗, conj-real) (sym (real-*ℤ (pos (c .gain)) (pos (c .gain))))
+    ∙ rw (symbol-unit (pair (c .bits) n) (omega (arith, b c refl (2 * n), b c refl (2 * n + 1))), 𝟏-⊗, conj-real)
+    (sym (real-*ℤ (pos (c .gain)) (pos (c .gain))))
   where
     arrange : (g x : Complex) → (g ⊗ x) ⊗ conj (g ⊗ x) ≡ (x ⊗ conj x) ⊗ (g ⊗ conj g)
     arrange g x = simp (conj-⊗, products)
 
--- what a code sends, times a chip, is its symbol times the chip's part in its reading
+-- ---- a code's part in the power
+-- A chip's power is the sum over all codes of the chip times the conjugate of what the code adds to it. Over one symbol of a code that is
+-- the code's own reading times the conjugate of what it sends, so the law of own readings is all that the power rests on.
 turned : (x f e w : Complex) → x ⊗ conj (f ⊗ e ⊗ w) ≡ conj f ⊗ (x ⊗ conj w ⊗ conj e)
 turned x f e w = simp (conj-⊗, products)
 
@@ -78,14 +81,19 @@ module _ (s : Setup) (h : s .cell < 128) (u : Unrelated s) (d : EachOpen s Bits)
     product : ℕ → Complex
     product q = data-chip s before q ⊗ conj (spread (s .cell) Q k (sent s before Q k) q)
 
+    -- over symbol n
     over-symbol : (n : ℕ) → Σ< Q (λ i. product (n * Q + i)) ≡ conj (sent s before Q k n) ⊗ reading (s .cell) Q k (data-chip s before) n
     unfolding product reading spread
     over-symbol n =
-        Σ-cong Q _ (λ i. conj (sent s before Q k n) ⊗ (data-chip s before (n * Q + i) ⊗ conj (scrambling (s .cell) (1 + (n * Q + i) % 16)) ⊗ real (element Q k i)))
-        (λ i l. rw (b .own-symbol n i l, b .own-element n i l, turned, conj-real))
-        ∙ sym (⊗-Σ Q (λ i. data-chip s before (n * Q + i) ⊗ conj (scrambling (s .cell) (1 + (n * Q + i) % 16)) ⊗ real (element Q k i)) (conj (sent s before Q k n)))
+        Σ-cong Q _ (λ i. conj (sent s before Q k n) ⊗ heard i) (λ i l. rw (b .own-symbol n i l, b .own-element n i l, turned, conj-real))
+        ∙ sym (⊗-Σ Q heard (conj (sent s before Q k n)))
+      where
+        heard : ℕ → Complex
+        heard i = data-chip s before (n * Q + i) ⊗ conj (scrambling (s .cell) (1 + (n * Q + i) % 16)) ⊗ real (element Q k i)
 
-    own-power : (n : ℕ) → conj (sent s before Q k n) ⊗ reading (s .cell) Q k (data-chip s before) n ≡ real (pos Q) ⊗ real (pos (squared-gain (s .channel Q k)))
+    -- a code that is not open sends 0; one that is open reads its own symbol
+    own-power : (n : ℕ)
+        → conj (sent s before Q k n) ⊗ reading (s .cell) Q k (data-chip s before) n ≡ real (pos Q) ⊗ real (pos (squared-gain (s .channel Q k)))
     unfolding gained
     own-power n =
         go (s .channel Q k) refl
@@ -95,16 +103,17 @@ module _ (s : Setup) (h : s .cell < 128) (u : Unrelated s) (d : EachOpen s Bits)
         arrange x y = simp products
 
         go : (o : Option Channel) → s .channel Q k ≡ o
-            → conj (sent s before Q k n) ⊗ reading (s .cell) Q k (data-chip s before) n ≡ real (pos Q) ⊗ (sent s before Q k n ⊗ conj (sent s before Q k n))
+            → conj (sent s before Q k n) ⊗ reading (s .cell) Q k (data-chip s before) n
+            ≡ real (pos Q) ⊗ (sent s before Q k n ⊗ conj (sent s before Q k n))
         go none e = rw (e, conj-zero) (simp (𝟎-⊗, ⊗-𝟎))
         go (some x) e = rw (own-sent s before Q k c n h (u Q k c (ap is-some e))) (arrange (sent s before Q k n) (real (pos Q)))
 
-    -- one code's part in the power of block m
+    -- over block m
     part : (m : ℕ) → Σ< 16 (λ i. product (m * 16 + i)) ≡ real (pos 16) ⊗ real (pos (squared-gain (s .channel Q k)))
     part m =
         ap (λ (n : ℕ). Σ< n (λ i. product (m * 16 + i))) (sym (b .whole))
         ∙ Σ-blocks R Q (λ i. product (m * 16 + i))
-        ∙ Σ-cong R _ (λ r. real (pos Q) ⊗ x) (λ r l. Σ-cong Q _ (λ i. product ((m * R + r) * Q + i)) (λ i l. ap product (sym (b .place m r i))) ∙ over-symbol (m * R + r) ∙ own-power (m * R + r))
+        ∙ Σ-cong R _ (λ r. real (pos Q) ⊗ x) (λ r l. symbol-in m r ∙ over-symbol (m * R + r) ∙ own-power (m * R + r))
         ∙ Σ-same R (real (pos Q) ⊗ x)
         ∙ rw (← ⊗-assoc, ← (real-*ℤ (pos R) (pos Q)), b .whole)
       where
@@ -113,6 +122,9 @@ module _ (s : Setup) (h : s .cell < 128) (u : Unrelated s) (d : EachOpen s Bits)
 
         x : Complex
         x = real (pos (squared-gain (s .channel Q k)))
+
+        symbol-in : (m r : ℕ) → Σ< Q (λ i. product (m * 16 + (r * Q + i))) ≡ Σ< Q (λ i. product ((m * R + r) * Q + i))
+        symbol-in m r = Σ-cong Q _ _ (λ i l. ap product (sym (b .place m r i)))
 
   pub data-power : (m : ℕ) → Σℤ< 16 (λ i. squared-size (data-chip s before (m * 16 + i))) ≡ pos (16 * squared-gains s)
   unfolding real product

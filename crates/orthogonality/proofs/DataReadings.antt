@@ -1,5 +1,5 @@
 -- What a code reads of a field's data chips. Assumes nothing.
-use mathlib.Core.Path.{_≡_, refl, sym, ap, _∙_, subst}
+use mathlib.Core.Path.{_≡_, refl, sym, ap, _∙_}
 use mathlib.Core.Bool.{Bool, true, false, true≢false}
 use mathlib.Core.Option.{Option, none, some}
 use Prim.Native.Nat.{ℕ, _+_, _*_, _/_, _%_, _<_, _≤_}
@@ -44,34 +44,40 @@ pub data-spread : (s : Setup) (before q : ℕ) → data-chip s before q ≡ over
 unfolding data-chip
 data-spread s before q = over-cong _ _ (λ Q k e. channel-spread (s .cell) before q Q k (s .channel Q k))
 
--- ---- and a reading is the sum of what it hears of each code
+-- ---- and a reading is a sum over them
 reading-over : (p Q k : ℕ) (x : ℕ → ℕ → ℕ → Complex) (n : ℕ)
     → reading p Q k (λ q. over-codes (λ Q′ k′. x Q′ k′ q)) n ≡ over-codes (λ Q′ k′. reading p Q k (x Q′ k′) n)
 unfolding reading
 reading-over p Q k x n =
-    Σ-cong Q _ (λ i. over-codes (λ Q′ k′. x Q′ k′ (n * Q + i) ⊗ s i ⊗ e i))
-    (λ i l. last (over-codes (λ Q′ k′. x Q′ k′ (n * Q + i))) (s i) (e i) ∙ ⊗-over (λ Q′ k′. x Q′ k′ (n * Q + i)) (s i ⊗ e i) ∙ over-cong _ _ (λ Q′ k′ c. sym (last (x Q′ k′ (n * Q + i)) (s i) (e i))))
-    ∙ Σ-over Q (λ i Q′ k′. x Q′ k′ (n * Q + i) ⊗ s i ⊗ e i)
+    Σ-cong Q _ (λ i. over-codes (λ Q′ k′. y i Q′ k′ ⊗ s i ⊗ e i))
+    (λ i l. first (over-codes (y i)) (s i) (e i) ∙ ⊗-over (y i) (s i ⊗ e i) ∙ over-cong _ _ (λ Q′ k′ c. sym (first (y i Q′ k′) (s i) (e i))))
+    ∙ Σ-over Q (λ i Q′ k′. y i Q′ k′ ⊗ s i ⊗ e i)
   where
+    y : ℕ → ℕ → ℕ → Complex
+    y i Q′ k′ = x Q′ k′ (n * Q + i)
+
     s : ℕ → Complex
     s i = conj (scrambling p (1 + (n * Q + i) % 16))
 
     e : ℕ → Complex
     e i = real (element Q k i)
 
-    last : (x s e : Complex) → x ⊗ s ⊗ e ≡ s ⊗ e ⊗ x
-    last x s e = simp products
+    first : (y s e : Complex) → y ⊗ s ⊗ e ≡ s ⊗ e ⊗ y
+    first y s e = simp products
 
-silence : (p Q k Q′ k′ n : ℕ) → reading p Q k (spread p Q′ k′ (λ m. 𝟎)) n ≡ 𝟎
+-- a code that is not open sends nothing
+silent : (p Q k Q′ k′ : ℕ) (f : ℕ → Complex) → ((m : ℕ) → f m ≡ 𝟎) → (n : ℕ) → reading p Q k (spread p Q′ k′ f) n ≡ 𝟎
 unfolding reading spread
-silence p Q k Q′ k′ n = Σ-cong Q _ (λ i. 𝟎) (λ i l. simp 𝟎-⊗) ∙ Σ-𝟎 Q
+silent p Q k Q′ k′ f z n = Σ-cong Q _ (λ i. 𝟎) (λ i l. rw (z ((n * Q + i) / Q′)) (simp 𝟎-⊗)) ∙ Σ-𝟎 Q
 
 module _ (s : Setup) (before Q k : ℕ) (c : is-code Q k ≡ true) (n : ℕ) where
+  -- it is the sum of what it hears of each code
   heard : reading (s .cell) Q k (data-chip s before) n ≡ over-codes (λ Q′ k′. reading (s .cell) Q k (spread (s .cell) Q′ k′ (sent s before Q′ k′)) n)
   heard =
       ap (λ (x : ℕ → Complex). reading (s .cell) Q k x n) (λ i q. data-spread s before q i)
       ∙ reading-over (s .cell) Q k (λ Q′ k′. spread (s .cell) Q′ k′ (sent s before Q′ k′)) n
 
+  -- and that is its own part alone: every other code is closed or unrelated
   pub own-sent : s .cell < 128 → Alone s Q k → reading (s .cell) Q k (data-chip s before) n ≡ real (pos Q) ⊗ sent s before Q k n
   unfolding gained
   own-sent h a =
@@ -79,9 +85,10 @@ module _ (s : Setup) (before Q k : ℕ) (c : is-code Q k ≡ true) (n : ℕ) whe
       ∙ over-one _ Q k c (λ Q′ k′ c′ d. other Q′ k′ c′ d (s .channel Q′ k′) refl (related Q′ k′ Q k) refl)
       ∙ own-spread (s .cell) h Q k c (sent s before Q k) n
     where
-      other : (Q′ k′ : ℕ) → is-code Q′ k′ ≡ true → ((Q′ ≡ Q) × (k′ ≡ k) → ⊥) → (o : Option Channel) → s .channel Q′ k′ ≡ o → (b : Bool) → related Q′ k′ Q k ≡ b
+      other : (Q′ k′ : ℕ) → is-code Q′ k′ ≡ true → ((Q′ ≡ Q) × (k′ ≡ k) → ⊥)
+          → (o : Option Channel) → s .channel Q′ k′ ≡ o → (b : Bool) → related Q′ k′ Q k ≡ b
           → reading (s .cell) Q k (spread (s .cell) Q′ k′ (sent s before Q′ k′)) n ≡ 𝟎
-      other Q′ k′ c′ d none e b r = subst (λ (o : Option Channel). reading (s .cell) Q k (spread (s .cell) Q′ k′ (λ m. gained o (before / Q′ + m))) n ≡ 𝟎) (sym e) (silence (s .cell) Q k Q′ k′ n)
+      other Q′ k′ c′ d none e b r = silent (s .cell) Q k Q′ k′ (sent s before Q′ k′) (λ m. rw e) n
       other Q′ k′ c′ d (some x) e true r = absurd (d (a Q′ k′ c′ (ap is-some e) r))
       other Q′ k′ c′ d (some x) e false r = other-spread (s .cell) h Q′ k′ c′ (sent s before Q′ k′) Q k c r n
 
@@ -91,8 +98,11 @@ module _ (s : Setup) (before Q k : ℕ) (c : is-code Q k ≡ true) (n : ℕ) whe
 pub own-data : (s : Setup) → s .cell < 128 → (before Q k : ℕ) → is-code Q k ≡ true → (c : Channel) → s .channel Q k ≡ some c → Alone s Q k
     → (n : ℕ) → reading (s .cell) Q k (data-chip s before) n ≡ real (pos Q) ⊗ real (pos (c .gain)) ⊗ symbol (pair (c .bits) (before / Q + n))
 unfolding gained
-own-data s h before Q k e c o a n = own-sent s before Q k e n h a ∙ rw o (sym (⊗-assoc (real (pos Q)) (real (pos (c .gain))) (symbol (pair (c .bits) (before / Q + n)))))
+own-data s h before Q k e c o a n =
+    own-sent s before Q k e n h a
+    ∙ rw o (sym (⊗-assoc (real (pos Q)) (real (pos (c .gain))) (symbol (pair (c .bits) (before / Q + n)))))
 
+-- a code is related to itself: where no open code is related to it, it is not open
 itself-test : T (each-code (λ Q k. related Q k Q k))
 unfolding each-code each related at-or-above
 itself-test = tt

@@ -49,7 +49,8 @@ module _ (g n : ℕ) (l : 1 ≤ g) (h : n < 4) where
   unfolding wins score
   beats m k d =
       (λ i. ltZ (score-times (pos g) (symbol n) m k i) (score-times (pos g) (symbol n) n h i))
-      ∙ times-ltZ g l (pair-score (symbol n) m) (pair-score (symbol n) n) (T-true _ (rw (ne-eqb m n d) at (each-at 4 (wins n) (each-at 4 (λ n. each 4 (wins n)) wins-test n h) m k)))
+      ∙ times-ltZ g l (pair-score (symbol n) m) (pair-score (symbol n) n)
+      (T-true _ (rw (ne-eqb m n d) at (each-at 4 (wins n) (each-at 4 (λ n. each 4 (wins n)) wins-test n h) m k)))
 
   at-most : (m : ℕ) → m < 4 → Dec (m ≡ n) → leZ (score m) (score n) ≡ true
   at-most m k (yes e) = rw e (le-leZ (score n) (score n) (omega arith))

@@ -5,7 +5,7 @@ use mathlib.Core.Bool.{true, false}
 use Prim.Native.Nat.{ℕ, _+_, _*_, _/_, _%_, _<_}
 use native.Mathlib.Omega.{arith}
 use lib.Dec.{T}
-use lib.IntN.{pos, _*ℤ_}
+use lib.IntN.{ℤ, pos, _*ℤ_}
 use Rattle.complex.specs.declared.Complex.{Complex}
 use Rattle.complex.specs.Arithmetic.{real, 𝟎, _⊗_, conj, Σℤ<}
 use Rattle.complex.proofs.Ring.{products, 𝟏-⊗, ⊗-comm, real-*ℤ}
@@ -58,10 +58,20 @@ module _ (p : ℕ) (h : p < 128) (Q k : ℕ) (c : is-code Q k ≡ true) (f : ℕ
     in-block : (m r : ℕ) → r < 16 / Q′ → reading p Q′ k′ (spread p Q k f) (m * (16 / Q′) + r) ≡ 𝟎
     unfolding reading spread weight
     in-block m r l =
-        Σ-cong Q′ _ (λ i. f (m * (16 / Q) + (r * Q′ + i) / Q) ⊗ real (element Q k ((r * Q′ + i) % Q) *ℤ element Q′ k′ i))
-        (λ i g. unscrambled _ _ _ _ (scrambling-unit p (((m * (16 / Q′) + r) * Q′ + i) % 16) h (omega arith)) ∙ rw (b′ .place m r i, b .divided m (r * Q′ + i), b .left m (r * Q′ + i), ← real-*ℤ))
-        ∙ weightless-sum (λ j. f (m * (16 / Q) + j)) (λ i. (r * Q′ + i) / Q) (λ i. element Q k ((r * Q′ + i) % Q) *ℤ element Q′ k′ i) (16 / Q) Q′ (λ i g. b .below (r * Q′ + i) (b′ .inside r i l g))
+        Σ-cong Q′ _ (λ i. f (m * (16 / Q) + t i / Q) ⊗ real (signs i))
+        (λ i g. unscrambled _ _ _ _ (scrambling-unit p (((m * (16 / Q′) + r) * Q′ + i) % 16) h (omega arith))
+        ∙ rw (b′ .place m r i, b .divided m (t i), b .left m (t i), ← real-*ℤ))
+        ∙ weightless-sum (λ j. f (m * (16 / Q) + j)) (λ i. t i / Q) signs (16 / Q) Q′ (λ i g. b .below (t i) (b′ .inside r i l g))
         (λ j g. no-weight Q k Q′ k′ c c′ u r j l g)
+      where
+        -- chip i of the reading, in its block
+        t : ℕ → ℕ
+        t i = r * Q′ + i
+
+        signs : ℕ → ℤ
+        signs i = element Q k (t i % Q) *ℤ element Q′ k′ i
 
     pub other-spread : (n : ℕ) → reading p Q′ k′ (spread p Q k f) n ≡ 𝟎
-    other-spread n = subst (λ (n : ℕ). reading p Q′ k′ (spread p Q k f) n ≡ 𝟎) (b′ .symbol n) (in-block (n / (16 / Q′)) (n % (16 / Q′)) (b′ .symbol-below n))
+    other-spread n =
+        subst (λ (n : ℕ). reading p Q′ k′ (spread p Q k f) n ≡ 𝟎) (b′ .symbol n)
+        (in-block (n / (16 / Q′)) (n % (16 / Q′)) (b′ .symbol-below n))

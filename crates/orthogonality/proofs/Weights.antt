@@ -47,7 +47,9 @@ module _ (f : ℕ → Complex) (place : ℕ → ℕ) (e : ℕ → ℤ) (K n : �
   one : (i : ℕ) → i < n → f (place i) ⊗ real (e i) ≡ Σ< K (λ m. f m ⊗ real (part i m))
   unfolding part
   one i l =
-      sym (Σ-one K (λ m. f m ⊗ real (part i m)) (place i) (h i l) (λ m g d. rw (ne-eqb (place i) m (λ q. d (sym q)), real-zero, ⊗-𝟎)) ∙ rw (eq-eqb (place i) (place i) refl))
+      sym
+      (Σ-one K (λ m. f m ⊗ real (part i m)) (place i) (h i l) (λ m g d. rw (ne-eqb (place i) m (λ q. d (sym q)), real-zero, ⊗-𝟎))
+      ∙ rw (eq-eqb (place i) (place i) refl))
 
   pub weightless-sum : ((m : ℕ) → m < K → Σℤ< n (λ i. cond (eqb (place i) m) (e i) (pos 0)) ≡ pos 0) → Σ< n (λ i. f (place i) ⊗ real (e i)) ≡ 𝟎
   unfolding part
