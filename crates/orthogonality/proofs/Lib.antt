@@ -1,1 +1,13 @@
 -- The laws.
+pub mod Codes
+pub mod Blocks
+pub mod Units
+pub mod Unrelated
+pub mod Weights
+pub mod Spreading
+pub mod DataReadings
+pub mod Counting
+pub mod Hardened
+pub mod DataPower
+pub mod SixteenCodes
+pub mod DataSizes
