@@ -6,3 +6,6 @@ pub mod BurstSizes
 pub mod BurstReadBack
 pub mod Readings
 pub mod Instances
+pub mod Otherwise
+pub mod Valid
+pub mod Answers
