@@ -1,10 +1,11 @@
 -- The bench gives at every call of every list what the reference model gives. Assumes nothing.
 use lib.IntN.{ℤ}
 use mathlib.Core.Path.{_≡_, refl, sym, ap, ap₂, subst, _∙_}
+use mathlib.Core.Logic.{_≢_}
 use mathlib.Core.Bool.{Bool, true, false, not, cond}
 use mathlib.Core.List.{List, [], _∷_, map}
 use mathlib.Core.Option.{Option, none, some}
-use Prim.Native.Nat.{ℕ, suc, _+_, _-_, _≤_, _<_, min}
+use Prim.Native.Nat.{ℕ, suc, _+_, _-_, _≤_, min}
 use native.Mathlib.Omega.{arith}
 use borrow.Author.Tests.{leb-true, leb-false, eqb-true, eq-eqb, ne-eqb, not-false}
 use lib.Dec.{eqb, leb}
@@ -17,19 +18,17 @@ use Rattle.codes.proofs.Refused.{Passed}
 use Rattle.slot.specs.declared.Settings.{Settings}
 use Rattle.modulation.specs.Nodes.{node}
 use Rattle.slot.specs.Setup.{Setup, is-some, is-open}
-use Rattle.slot.specs.Slot.{slot-length, chip}
+use Rattle.slot.specs.Slot.{slot-length, bit-count, chip}
 use Rattle.slot.specs.Tables.{view}
 use Rattle.bench.specs.declared.Bench.{Bench}
 use Rattle.bench.specs.declared.Channel.{Channel as Record}
 use Rattle.bench.specs.Changes as Tables
-use Rattle.bench.specs.BenchCalls.{under-way, fresh, set-cell-refusals, open-refusals, AnswerAt, refused-at, loads, opened-in-turn, close-refusals, set-gain-refusals, load-bits-refusals, set-sync-refusals, Draw, draw-refusals, draw-call, moved-on}
+use Rattle.bench.specs.BenchCalls.{under-way, fresh, set-cell-refusals, open-refusals, bad-gain, refused-at, opened-in-turn, close-refusals, set-gain-refusals, load-bits-refusals, set-sync-refusals, Draw, draw-refusals, moved-on}
 use Rattle.bench.proofs.Accepted.{good-code}
 use Rattle.bench.proofs.Loading.{is-bit}
-use Rattle.demands.specs.Calls.{Call, set-cell, open-code, load-plan, close, set-gain, load-bits, set-sync, clear-sync, start, draw, Told, accepted, drew, Step, told-by, left-after}
-use Rattle.demands.specs.Reference as Model
+use Rattle.demands.specs.Calls.{Call, set-cell, open-code, load-plan, close, set-gain, load-bits, set-sync, clear-sync, start, draw, Told, drew, Step, told-by, left-after}
 use Rattle.demands.specs.Reference.{Reference, fresh-reference, opened, closed, gain-set, bits-loaded, with-sync, records-opened, by-entry, by-plan, started, copy-chip, drawn, reference-step, fed}
-use Rattle.demands.specs.BenchSteps as Bench
-use Rattle.demands.specs.BenchSteps.{bench-step, called, planned}
+use Rattle.demands.specs.BenchSteps.{bench-step, called, planned, drawn as bench-drawn}
 use Rattle.demands.proofs.TableLaws.{view-cell-set, view-nothing-open, view-sync-set, view-sync-cleared, view-opened, view-closed, view-gain-set, view-bits-loaded}
 use Rattle.demands.proofs.Otherwise.{alike}
 use Rattle.demands.proofs.Valid.{Valid, gain-range, only-itself, opened-valid, nothing-open-valid, ValidReference, fresh-reference-valid, reference-step-valid}
@@ -68,33 +67,34 @@ record Change (s : Settings) (t : Setup) : Type 0 where
   pub gains : length (s .gains) ≡ 31
 
 -- ---- the entries, each where its refusals passed
+not-0 : (g : ℕ) → bad-gain g ≡ false → g ≢ 0
+not-0 g e z = omega (arith, gain-range g e .0)
+
 module _ (s : Settings) (h : ValidTables s) where
   new-gain : (Q k g : ℕ) → length (set (s .gains) (node Q k) g) ≡ 31
   new-gain Q k g = length-set (s .gains) (node Q k) g ∙ h .gains
 
   opening : (Q k g : ℕ) → Passed (open-refusals (view s) Q k g) → Change (Tables.with-bits (Tables.with-gain s Q k g) Q k []) (opened (view s) Q k g)
   opening Q k g p =
-      record {
-        view = view-opened s (h .gains) Q k (good-code Q k (p .0) (p .1 .0) .listed) g (λ e. omega (arith, gain-range g (p .1 .1 .0) .0)) (p .1 .1 .1 .0);
-        gains = new-gain Q k g;
-      }
+      let c = good-code Q k (p .0) (p .1 .0) .listed in
+      record { view = view-opened s (h .gains) Q k c g (not-0 g (p .1 .1 .0)) (p .1 .1 .1 .0); gains = new-gain Q k g }
 
   closing : (Q k : ℕ) → Passed (close-refusals (view s) Q k) → Change (Tables.with-gain s Q k 0) (closed (view s) Q k)
   closing Q k p = record { view = view-closed s (h .gains) Q k (good-code Q k (p .0) (p .1 .0) .listed); gains = new-gain Q k 0 }
 
   setting-gain : (Q k g : ℕ) → Passed (set-gain-refusals (view s) Q k g) → Change (Tables.with-gain s Q k g) (gain-set (view s) Q k g)
   setting-gain Q k g p =
-      record {
-        view = view-gain-set s (h .gains) Q k (good-code Q k (p .0) (p .1 .0) .listed) g (λ e. omega (arith, gain-range g (p .1 .1 .0) .0)) (not-false _ (p .1 .1 .1 .0));
-        gains = new-gain Q k g;
-      }
+      let c = good-code Q k (p .0) (p .1 .0) .listed in
+      record { view = view-gain-set s (h .gains) Q k c g (not-0 g (p .1 .1 .0)) (not-false _ (p .1 .1 .1 .0)); gains = new-gain Q k g }
 
   loading-bits : (Q k : ℕ) (bits : List ℕ) → Passed (load-bits-refusals (view s) Q k bits) → Change (Tables.with-bits s Q k bits) (bits-loaded (view s) Q k bits)
   unfolding view
   loading-bits Q k bits p =
+      let c = good-code Q k (p .0) (p .1 .0) .listed in
       let o = not-false (is-open (view s) Q k) (p .1 .1 .0) in
+      let count = eqb-true (length bits) (bit-count (s .kind) Q) (not-false _ (p .1 .1 .1 .0)) in
       record {
-        view = view-bits-loaded s (h .gains) Q k (good-code Q k (p .0) (p .1 .0) .listed) bits o (only-itself (view s) (h .valid) Q k o) (eqb-true _ _ (not-false _ (p .1 .1 .1 .0))) (is-bit bits (p .1 .1 .1 .1 .0));
+        view = view-bits-loaded s (h .gains) Q k c bits o (only-itself (view s) (h .valid) Q k o) count (is-bit bits (p .1 .1 .1 .1 .0));
         gains = h .gains;
       }
 
@@ -140,8 +140,10 @@ module _ (b : Bench) (v : ValidBench b) where
       → Steps (by-entry (reference-of b) (rs otherwise t)) (called b (rs otherwise Tables.with-settings b s))
   entry rs {s} {t} h =
       alike (λ (x : Answer Setup) (y : Answer Bench). Steps (by-entry (reference-of b) x) (called b y)) (λ n. record { same = refl; sized = v .sized })
-      rs t (Tables.with-settings b s) (λ p. record { same = ap (λ (u : Setup). record { told = accepted; next = Model.with-settings (reference-of b) u }) (sym (h p .view)); sized = record { settings = h p .gains; sending = v .sized .sending } })
+      rs t (Tables.with-settings b s)
+      (λ p. record { same = rw (← (h p .view)); sized = record { settings = h p .gains; sending = v .sized .sending } })
 
+  -- Load plan: record after record, each on what the earlier ones left
   plan-opened : (place : ℕ) (s : Settings) (cs : List Record) → ValidTables s
       → Steps (by-plan (reference-of b) (records-opened place (view s) cs)) (planned b (opened-in-turn place (Tables.with-settings b s) cs))
   unfolding records-opened opened-in-turn
@@ -153,7 +155,8 @@ module _ (b : Bench) (v : ValidBench b) where
       (λ n. record { same = refl; sized = v .sized })
       (open-refusals (view s) (c .q) (c .k) (c .gain)) (opened (view s) (c .q) (c .k) (c .gain)) _
       (λ p. let o = opening s h (c .q) (c .k) (c .gain) p in
-      rw (← (o .view)) (plan-opened (suc place) _ cs (record { gains = o .gains; valid = subst Valid (sym (o .view)) (opened-valid (view s) (h .valid) (c .q) (c .k) (c .gain) p) })))
+      let w = opened-valid (view s) (h .valid) (c .q) (c .k) (c .gain) p in
+      rw (← (o .view)) (plan-opened (suc place) _ cs (record { gains = o .gains; valid = subst Valid (sym (o .view)) w })))
 
   -- "An accepted start makes the copy from the settings and sets the tally to 0."
   start-steps : Steps (reference-step (reference-of b) start) (bench-step b start)
@@ -167,11 +170,13 @@ module _ (b : Bench) (v : ValidBench b) where
   -- "An accepted draw of length n gets as its count m, the smaller of n and 2,560 less the tally, and the chips from tally to tally+m-1 of the copy's
   -- slot. The tally grows by m, and at 2,560 the copy goes."
   chips-drawn : (re im : List ℤ) (m : ℕ) → b .position + m ≤ slot-length → under-way b ≡ true
-      → drawn (reference-of b) m (gives tt) ≡ seen (Bench.drawn b re im (gives (draw-of b m)))
+      → drawn (reference-of b) m (gives tt) ≡ seen (bench-drawn b re im (gives (draw-of b m)))
   chips-drawn re im m l e =
       ap₂ (λ (x : Values) (o : Option Setup). record { told = drew m x; next = record { settings = view (b .settings); sending = o; sent = b .position + m } })
-      (ap (λ (o : Option Setup). in-buffers m (λ i. copy-chip o (b .position + i))) copy ∙ left-in-buffers m (λ i. chip (view (b .sending)) (b .position + i)) re im)
-      (ap (λ (o : Option Setup). cond (eqb (b .position + m) slot-length) none o) copy ∙ copy-goes (b .position + m) (b .running) (view (b .sending)) l e)
+      (ap (λ (o : Option Setup). in-buffers m (λ i. copy-chip o (b .position + i))) copy
+      ∙ left-in-buffers m (λ i. chip (view (b .sending)) (b .position + i)) re im)
+      (ap (λ (o : Option Setup). cond (eqb (b .position + m) slot-length) none o) copy
+      ∙ copy-goes (b .position + m) (b .running) (view (b .sending)) l e)
     where
       copy : reference-of b .sending ≡ some (view (b .sending))
       copy = ap (λ (t : Bool). cond t (some (view (b .sending))) none) e
@@ -182,7 +187,7 @@ module _ (b : Bench) (v : ValidBench b) where
       let m : ℕ = min (length re) (slot-length - b .position) in
       let l : b .position + m ≤ slot-length = omega (arith, v .model .at-most) in
       rw (air (under-way b) (view (b .sending)))
-      (alike (λ (x : Answer (Unit {0})) (y : Answer Draw). Steps (drawn (reference-of b) m x) (Bench.drawn b re im y)) (λ n. record { same = refl; sized = v .sized })
+      (alike (λ (x : Answer (Unit {0})) (y : Answer Draw). Steps (drawn (reference-of b) m x) (bench-drawn b re im y)) (λ n. record { same = refl; sized = v .sized })
       (draw-refusals b (length re) (length im)) tt (draw-of b m)
       (λ p. record { same = chips-drawn re im m l (not-false _ (p .0)); sized = record { settings = v .sized .settings; sending = v .sized .sending } }))
 
@@ -191,8 +196,9 @@ module _ (b : Bench) (v : ValidBench b) where
   step (set-cell p t) = entry (set-cell-refusals p t) (λ h. record { view = view-cell-set (record { 0 = p }) t (b .settings .pairs); gains = refl })
   step (open-code Q k g) = entry (open-refusals (view (b .settings)) Q k g) (opening (b .settings) own Q k g)
   step (load-plan plan) =
-      let none-open = view-nothing-open (b .settings) in
-      rw (← none-open) (plan-opened 0 (Tables.all-closed (b .settings)) plan (record { gains = refl; valid = subst Valid (sym none-open) (nothing-open-valid (view (b .settings)) (own .valid)) }))
+      let e = view-nothing-open (b .settings) in
+      let w = nothing-open-valid (view (b .settings)) (own .valid) in
+      rw (← e) (plan-opened 0 (Tables.all-closed (b .settings)) plan (record { gains = refl; valid = subst Valid (sym e) w }))
   step (close Q k) = entry (close-refusals (view (b .settings)) Q k) (closing (b .settings) own Q k)
   step (set-gain Q k g) = entry (set-gain-refusals (view (b .settings)) Q k g) (setting-gain (b .settings) own Q k g)
   step (load-bits Q k bits) = entry (load-bits-refusals (view (b .settings)) Q k bits) (loading-bits (b .settings) own Q k bits)

@@ -9,3 +9,4 @@ pub mod Instances
 pub mod Otherwise
 pub mod Valid
 pub mod Answers
+pub mod History

@@ -1,6 +1,6 @@
 -- What the settings of every bench satisfy: cell parameter and type are listed, the open codes are codes and unrelated, gains and bits are in their
 -- ranges. Each accepted call keeps it. Assumes nothing.
-use mathlib.Core.Path.{_≡_, refl, sym, ap, subst, _∙_}
+use mathlib.Core.Path.{_≡_, refl, sym, subst, _∙_}
 use mathlib.Core.Logic.{_⊎_, inl, inr}
 use mathlib.Core.Bool.{Bool, true, false, not, _&&_, _||_, cond, and-comm, or-comm, false≢true}
 use mathlib.Core.List.{List, [], _∷_}
@@ -56,18 +56,17 @@ pub record Valid (s : Setup) : Type 0 where
   pub sync : (y : SyncSetup) → s .sync ≡ some y → HeldSync (s .type) y
 
 -- ---- settings with nothing open
-module _ (p t : ℕ) (y : Option SyncSetup) where
-  pub none-open-valid : p < 128 → among t (1 ∷ 2 ∷ 3 ∷ []) ≡ true → ((z : SyncSetup) → y ≡ some z → HeldSync t z)
-      → Valid (record { cell = p; type = t; channel = λ Q k. none; sync = y })
-  none-open-valid c d f =
-      record {
-        cell = c;
-        type = d;
-        code = λ Q k o. absurd (false≢true o);
-        apart = λ Q k Q′ k′ o o′ r. absurd (false≢true o);
-        channel = λ Q k x e. absurd (Option·none-ne-some x e);
-        sync = f;
-      }
+none-open-valid : (p t : ℕ) (y : Option SyncSetup) → p < 128 → among t (1 ∷ 2 ∷ 3 ∷ []) ≡ true → ((z : SyncSetup) → y ≡ some z → HeldSync t z)
+    → Valid (record { cell = p; type = t; channel = λ Q k. none; sync = y })
+none-open-valid p t y c d f =
+    record {
+      cell = c;
+      type = d;
+      code = λ Q k o. absurd (false≢true o);
+      apart = λ Q k Q′ k′ o o′ r. absurd (false≢true o);
+      channel = λ Q k x e. absurd (Option·none-ne-some x e);
+      sync = f;
+    }
 
 no-sync-held : (t : ℕ) (y : SyncSetup) → none ≡ some y → HeldSync t y
 no-sync-held t y e = absurd (Option·none-ne-some y e)
