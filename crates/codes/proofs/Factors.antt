@@ -9,11 +9,12 @@ use borrow.Author.Tests.{ne-eqb}
 use Rattle.codes.specs.Held.{NoneOf}
 use Rattle.codes.specs.Tree.{among, spreading-factors, is-spreading-factor}
 
-abbrev All : (ℕ → Type 0) → List ℕ → Type 0
+-- a fact of each number of a list is one of any number among them
+abbrev pub All : (ℕ → Type 0) → List ℕ → Type 0
 All P [] = Unit {0}
 All P (x ∷ xs) = P x × All P xs
 
-of-all : (P : ℕ → Type 0) (xs : List ℕ) → All P xs → (n : ℕ) → among n xs ≡ true → P n
+pub of-all : (P : ℕ → Type 0) (xs : List ℕ) → All P xs → (n : ℕ) → among n xs ≡ true → P n
 of-all P [] a n t = absurd (false≢true t)
 of-all P (x ∷ xs) a n t = go (ℕ-discrete n x) (of-all P xs (a .1) n)
   where

@@ -8,3 +8,13 @@ pub mod Readings
 pub mod Instances
 pub mod Entries
 pub mod TableLaws
+pub mod Otherwise
+pub mod Valid
+pub mod Answers
+pub mod History
+pub mod FieldChips
+pub mod FieldReadings
+pub mod ReadingTheorems
+pub mod Power
+pub mod HardBits
+pub mod BurstDrawn

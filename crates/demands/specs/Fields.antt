@@ -15,6 +15,7 @@ use Rattle.codes.specs.Refusals.{Answer, gives}
 use Rattle.codes.specs.Scrambling.{code-group}
 use Rattle.codes.specs.Burst.{burst-start}
 use Rattle.modulation.specs.Symbols.{pair, symbol}
+use Rattle.slot.specs.declared.parts.Parts.{Parts}
 use Rattle.slot.specs.Setup.{Channel, Setup, is-some}
 use Rattle.slot.specs.Slot.{burst-type, sync-chip, chip}
 use Rattle.bench.specs.BenchCalls.{related-to-open}
@@ -27,19 +28,28 @@ pub data Field : Type 0 where
   field-1 : Field
   field-2 : Field
 
-abbrev pub field-length : Setup → Field → ℕ
-field-length s field-1 = burst-type (s .type) .field1
-field-length s field-2 = burst-type (s .type) .field2
+abbrev pub length-of : Parts → Field → ℕ
+length-of t field-1 = t .field1
+length-of t field-2 = t .field2
 
--- the chip of the slot at which it starts
-abbrev pub field-start : Setup → Field → ℕ
-field-start s field-1 = 0
-field-start s field-2 = burst-type (s .type) .field1 + burst-type (s .type) .midamble
+-- the chip of the slot at which a field starts
+abbrev pub start-of : Parts → Field → ℕ
+start-of t field-1 = 0
+start-of t field-2 = t .field1 + t .midamble
 
 -- the number of chips of the fields before it
+abbrev pub before-of : Parts → Field → ℕ
+before-of t field-1 = 0
+before-of t field-2 = t .field1
+
+abbrev pub field-length : Setup → Field → ℕ
+field-length s f = length-of (burst-type (s .type)) f
+
+abbrev pub field-start : Setup → Field → ℕ
+field-start s f = start-of (burst-type (s .type)) f
+
 abbrev pub field-before : Setup → Field → ℕ
-field-before s field-1 = 0
-field-before s field-2 = burst-type (s .type) .field1
+field-before s f = before-of (burst-type (s .type)) f
 
 -- n entries of a list, from entry `at` on
 abbrev pub part : {A : Type 0} → ℕ → ℕ → List A → List A

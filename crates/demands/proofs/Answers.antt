@@ -1,0 +1,261 @@
+-- The bench gives at every call of every list what the reference model gives. Assumes nothing.
+use lib.IntN.{ℤ}
+use mathlib.Core.Path.{_≡_, refl, sym, ap, ap₂, subst, _∙_}
+use mathlib.Core.Logic.{_≢_}
+use mathlib.Core.Bool.{Bool, true, false, not, cond}
+use mathlib.Core.List.{List, [], _∷_, map}
+use mathlib.Core.Option.{Option, none, some}
+use Prim.Native.Nat.{ℕ, suc, _+_, _-_, _≤_, min}
+use native.Mathlib.Omega.{arith}
+use borrow.Author.Tests.{leb-true, leb-false, eqb-true, eq-eqb, ne-eqb, not-false}
+use lib.Dec.{eqb, leb}
+use lib.ListN.{length, set, take, length-set}
+use Rattle.complex.specs.declared.Complex.{Complex}
+use Rattle.complex.specs.Buffers.{Values, written, in-buffers}
+use Rattle.complex.proofs.Lists.{take-written}
+use Rattle.codes.specs.Refusals.{Answer, refused, gives, Refusal, _if_, _otherwise_}
+use Rattle.codes.proofs.Refused.{Passed}
+use Rattle.slot.specs.declared.Settings.{Settings}
+use Rattle.modulation.specs.Nodes.{node}
+use Rattle.slot.specs.Setup.{Setup, is-some, is-open}
+use Rattle.slot.specs.Slot.{slot-length, bit-count, chip}
+use Rattle.slot.specs.Tables.{view}
+use Rattle.bench.specs.declared.Bench.{Bench}
+use Rattle.bench.specs.declared.Channel.{Channel as Record}
+use Rattle.bench.specs.Changes as Tables
+use Rattle.bench.specs.BenchCalls.{under-way, fresh, set-cell-refusals, open-refusals, bad-gain, refused-at, opened-in-turn, close-refusals, set-gain-refusals, load-bits-refusals, set-sync-refusals, Draw, draw-refusals, moved-on}
+use Rattle.bench.proofs.Accepted.{good-code}
+use Rattle.bench.proofs.Loading.{is-bit}
+use Rattle.demands.specs.Calls.{Call, set-cell, open-code, load-plan, close, set-gain, load-bits, set-sync, clear-sync, start, draw, Told, drew, Step, told-by, left-after}
+use Rattle.demands.specs.Reference.{Reference, fresh-reference, opened, closed, gain-set, bits-loaded, with-sync, records-opened, by-entry, by-plan, started, copy-chip, drawn, reference-step, fed}
+use Rattle.demands.specs.BenchSteps.{bench-step, called, planned, drawn as bench-drawn}
+use Rattle.demands.proofs.TableLaws.{view-cell-set, view-nothing-open, view-sync-set, view-sync-cleared, view-opened, view-closed, view-gain-set, view-bits-loaded}
+use Rattle.demands.proofs.Otherwise.{alike}
+use Rattle.demands.proofs.Valid.{Valid, gain-range, only-itself, opened-valid, nothing-open-valid, ValidReference, fresh-reference-valid, reference-step-valid}
+
+-- the reference model that a bench stands for
+abbrev pub reference-of : Bench → Reference
+reference-of b =
+    record { settings = view (b .settings); sending = cond (under-way b) (some (view (b .sending))) none; sent = b .position }
+
+-- a step of the bench, seen in the reference model
+abbrev pub seen : Step Bench → Step Reference
+seen y = record { told = y .told; next = reference-of (y .next) }
+
+-- ---- the bench's invariant
+pub record Sized (b : Bench) : Type 0 where
+  pub settings : length (b .settings .gains) ≡ 31
+  pub sending : length (b .sending .gains) ≡ 31
+
+pub record ValidBench (b : Bench) : Type 0 where
+  pub sized : Sized b
+  pub model : ValidReference (reference-of b)
+
+-- tables of gains in their size, that hold valid settings
+record ValidTables (s : Settings) : Type 0 where
+  pub gains : length (s .gains) ≡ 31
+  pub valid : Valid (view s)
+
+-- a step of the reference model is the bench's
+record Steps (x : Step Reference) (y : Step Bench) : Type 0 where
+  pub same : x ≡ seen y
+  pub sized : Sized (y .next)
+
+-- new tables are what the entry makes of the settings
+record Change (s : Settings) (t : Setup) : Type 0 where
+  pub view : view s ≡ t
+  pub gains : length (s .gains) ≡ 31
+
+-- ---- the entries, each where its refusals passed
+not-0 : (g : ℕ) → bad-gain g ≡ false → g ≢ 0
+not-0 g e z = omega (arith, gain-range g e .0)
+
+module _ (s : Settings) (h : ValidTables s) where
+  new-gain : (Q k g : ℕ) → length (set (s .gains) (node Q k) g) ≡ 31
+  new-gain Q k g = length-set (s .gains) (node Q k) g ∙ h .gains
+
+  opening : (Q k g : ℕ) → Passed (open-refusals (view s) Q k g) → Change (Tables.with-bits (Tables.with-gain s Q k g) Q k []) (opened (view s) Q k g)
+  opening Q k g p =
+      let c = good-code Q k (p .0) (p .1 .0) .listed in
+      record { view = view-opened s (h .gains) Q k c g (not-0 g (p .1 .1 .0)) (p .1 .1 .1 .0); gains = new-gain Q k g }
+
+  closing : (Q k : ℕ) → Passed (close-refusals (view s) Q k) → Change (Tables.with-gain s Q k 0) (closed (view s) Q k)
+  closing Q k p = record { view = view-closed s (h .gains) Q k (good-code Q k (p .0) (p .1 .0) .listed); gains = new-gain Q k 0 }
+
+  setting-gain : (Q k g : ℕ) → Passed (set-gain-refusals (view s) Q k g) → Change (Tables.with-gain s Q k g) (gain-set (view s) Q k g)
+  setting-gain Q k g p =
+      let c = good-code Q k (p .0) (p .1 .0) .listed in
+      record { view = view-gain-set s (h .gains) Q k c g (not-0 g (p .1 .1 .0)) (not-false _ (p .1 .1 .1 .0)); gains = new-gain Q k g }
+
+  loading-bits : (Q k : ℕ) (bits : List ℕ) → Passed (load-bits-refusals (view s) Q k bits) → Change (Tables.with-bits s Q k bits) (bits-loaded (view s) Q k bits)
+  unfolding view
+  loading-bits Q k bits p =
+      let c = good-code Q k (p .0) (p .1 .0) .listed in
+      let o = not-false (is-open (view s) Q k) (p .1 .1 .0) in
+      let count = eqb-true (length bits) (bit-count (s .kind) Q) (not-false _ (p .1 .1 .1 .0)) in
+      record {
+        view = view-bits-loaded s (h .gains) Q k c bits o (only-itself (view s) (h .valid) Q k o) count (is-bit bits (p .1 .1 .1 .1 .0));
+        gains = h .gains;
+      }
+
+  setting-sync : (case frame half gP gS : ℕ)
+      → Change (Tables.with-sync s (record { on = 1; case = case; frame = frame; half = half; gp = gP; gs = gS }))
+      (with-sync (view s) (some (record { case = case; frame = frame; half = half; gP = gP; gS = gS })))
+  unfolding view
+  setting-sync case frame half gP gS = record { view = view-sync-set s (h .valid .cell) case frame half gP gS; gains = h .gains }
+
+-- ---- the air
+-- a slot is under way in both, or in none
+air : (t : Bool) (s : Setup) → is-some (cond t (some s) none) ≡ t
+air true s = refl
+air false s = refl
+
+-- at 2,560 the copy goes, and the bench stops running
+copy-goes : (x running : ℕ) (s : Setup) → x ≤ slot-length → not (eqb running 0) ≡ true
+    → _≡_ {A = Option Setup} (cond (eqb x slot-length) none (some s)) (cond (not (eqb (cond (leb slot-length x) 0 running) 0)) (some s) none)
+copy-goes x running s l e = go (leb slot-length x) refl
+  where
+    go : (t : Bool) → leb slot-length x ≡ t
+        → _≡_ {A = Option Setup} (cond (eqb x slot-length) none (some s)) (cond (not (eqb (cond t 0 running) 0)) (some s) none)
+    go true f = rw (eq-eqb x slot-length (omega (arith, leb-true slot-length x f)))
+    go false f = rw (e, ne-eqb x slot-length (λ q. omega (arith, leb-false slot-length x f)))
+
+-- the first entries of the buffers are the chips that the draw wrote
+left-in-buffers : (m : ℕ) (f : ℕ → Complex) (re im : List ℤ)
+    → let v = in-buffers m f in v ≡ record { re = take m (written (v .re) re); im = take m (written (v .im) im) }
+left-in-buffers m f re im =
+    ap₂ (λ (x y : List ℤ). record { re = x; im = y }) (sym (take-written (λ i. f i .re) re m)) (sym (take-written (λ i. f i .im) im m))
+
+-- what a draw of m chips gives
+abbrev draw-of : Bench → ℕ → Draw
+draw-of b m = record { count = m; chips = in-buffers m (λ i. chip (view (b .sending)) (b .position + i)); bench = moved-on b m }
+
+-- ---- one call
+module _ (b : Bench) (v : ValidBench b) where
+  own : ValidTables (b .settings)
+  own = record { gains = v .sized .settings; valid = v .model .settings }
+
+  -- "Each accepted call but start and draw changes the settings by its entry."
+  entry : (rs : List Refusal) {s : Settings} {t : Setup} → (Passed rs → Change s t)
+      → Steps (by-entry (reference-of b) (rs otherwise t)) (called b (rs otherwise Tables.with-settings b s))
+  entry rs {s} {t} h =
+      alike (λ (x : Answer Setup) (y : Answer Bench). Steps (by-entry (reference-of b) x) (called b y)) (λ n. record { same = refl; sized = v .sized })
+      rs t (Tables.with-settings b s)
+      (λ p. record { same = rw (← (h p .view)); sized = record { settings = h p .gains; sending = v .sized .sending } })
+
+  -- Load plan: record after record, each on what the earlier ones left
+  plan-opened : (place : ℕ) (s : Settings) (cs : List Record) → ValidTables s
+      → Steps (by-plan (reference-of b) (records-opened place (view s) cs)) (planned b (opened-in-turn place (Tables.with-settings b s) cs))
+  unfolding records-opened opened-in-turn
+  plan-opened place s [] h = record { same = refl; sized = record { settings = h .gains; sending = v .sized .sending } }
+  plan-opened place s (c ∷ cs) h =
+      alike (λ (x : Answer Setup) (y : Answer Bench).
+      Steps (by-plan (reference-of b) (elim x [ refused n ↦ refused-at n place | gives next ↦ records-opened (suc place) next cs ]))
+      (planned b (elim y [ refused n ↦ refused-at n place | gives next ↦ opened-in-turn (suc place) next cs ])))
+      (λ n. record { same = refl; sized = v .sized })
+      (open-refusals (view s) (c .q) (c .k) (c .gain)) (opened (view s) (c .q) (c .k) (c .gain)) _
+      (λ p. let o = opening s h (c .q) (c .k) (c .gain) p in
+      let w = opened-valid (view s) (h .valid) (c .q) (c .k) (c .gain) p in
+      rw (← (o .view)) (plan-opened (suc place) _ cs (record { gains = o .gains; valid = subst Valid (sym (o .view)) w })))
+
+  -- "An accepted start makes the copy from the settings and sets the tally to 0."
+  start-steps : Steps (reference-step (reference-of b) start) (bench-step b start)
+  unfolding reference-step bench-step
+  start-steps =
+      rw (air (under-way b) (view (b .sending)))
+      (alike (λ (x : Answer (Unit {0})) (y : Answer Bench). Steps (started (reference-of b) x) (called b y)) (λ n. record { same = refl; sized = v .sized })
+      (10 if under-way b ∷ []) tt (record { settings = b .settings; running = 1; sending = b .settings; position = 0 })
+      (λ p. record { same = refl; sized = record { settings = v .sized .settings; sending = v .sized .settings } }))
+
+  -- "An accepted draw of length n gets as its count m, the smaller of n and 2,560 less the tally, and the chips from tally to tally+m-1 of the copy's
+  -- slot. The tally grows by m, and at 2,560 the copy goes."
+  chips-drawn : (re im : List ℤ) (m : ℕ) → b .position + m ≤ slot-length → under-way b ≡ true
+      → drawn (reference-of b) m (gives tt) ≡ seen (bench-drawn b re im (gives (draw-of b m)))
+  chips-drawn re im m l e =
+      ap₂ (λ (x : Values) (o : Option Setup). record { told = drew m x; next = record { settings = view (b .settings); sending = o; sent = b .position + m } })
+      (ap (λ (o : Option Setup). in-buffers m (λ i. copy-chip o (b .position + i))) copy
+      ∙ left-in-buffers m (λ i. chip (view (b .sending)) (b .position + i)) re im)
+      (ap (λ (o : Option Setup). cond (eqb (b .position + m) slot-length) none o) copy
+      ∙ copy-goes (b .position + m) (b .running) (view (b .sending)) l e)
+    where
+      copy : reference-of b .sending ≡ some (view (b .sending))
+      copy = ap (λ (t : Bool). cond t (some (view (b .sending))) none) e
+
+  draw-steps : (re im : List ℤ) → Steps (reference-step (reference-of b) (draw (length re) (length im))) (bench-step b (draw re im))
+  unfolding reference-step bench-step
+  draw-steps re im =
+      let m : ℕ = min (length re) (slot-length - b .position) in
+      let l : b .position + m ≤ slot-length = omega (arith, v .model .at-most) in
+      rw (air (under-way b) (view (b .sending)))
+      (alike (λ (x : Answer (Unit {0})) (y : Answer Draw). Steps (drawn (reference-of b) m x) (bench-drawn b re im y)) (λ n. record { same = refl; sized = v .sized })
+      (draw-refusals b (length re) (length im)) tt (draw-of b m)
+      (λ p. record { same = chips-drawn re im m l (not-false _ (p .0)); sized = record { settings = v .sized .settings; sending = v .sized .sending } }))
+
+  step : (c : Call (List ℤ)) → Steps (reference-step (reference-of b) (fed c)) (bench-step b c)
+  unfolding reference-step bench-step fed
+  step (set-cell p t) = entry (set-cell-refusals p t) (λ h. record { view = view-cell-set (record { 0 = p }) t (b .settings .pairs); gains = refl })
+  step (open-code Q k g) = entry (open-refusals (view (b .settings)) Q k g) (opening (b .settings) own Q k g)
+  step (load-plan plan) =
+      let e = view-nothing-open (b .settings) in
+      let w = nothing-open-valid (view (b .settings)) (own .valid) in
+      rw (← e) (plan-opened 0 (Tables.all-closed (b .settings)) plan (record { gains = refl; valid = subst Valid (sym e) w }))
+  step (close Q k) = entry (close-refusals (view (b .settings)) Q k) (closing (b .settings) own Q k)
+  step (set-gain Q k g) = entry (set-gain-refusals (view (b .settings)) Q k g) (setting-gain (b .settings) own Q k g)
+  step (load-bits Q k bits) = entry (load-bits-refusals (view (b .settings)) Q k bits) (loading-bits (b .settings) own Q k bits)
+  step (set-sync case frame half gP gS) =
+      entry (set-sync-refusals (view (b .settings)) case frame half gP gS) (λ p. setting-sync (b .settings) own case frame half gP gS)
+  step clear-sync = entry [] (λ p. record { view = view-sync-cleared (b .settings); gains = own .gains })
+  step start = start-steps
+  step (draw re im) = draw-steps re im
+
+  pub agrees : (c : Call (List ℤ)) → reference-step (reference-of b) (fed c) ≡ seen (bench-step b c)
+  agrees c = step c .same
+
+  pub bench-step-valid : (c : Call (List ℤ)) → ValidBench (bench-step b c .next)
+  bench-step-valid c =
+      record {
+        sized = step c .sized;
+        model = subst (λ (x : Step Reference). ValidReference (x .next)) (agrees c) (reference-step-valid (reference-of b) (fed c) (v .model));
+      }
+
+-- ---- a list of calls
+told-from : (b : Bench) → ValidBench b → (calls : List (Call (List ℤ))) → told-by bench-step b calls ≡ told-by reference-step (reference-of b) (map fed calls)
+unfolding told-by
+told-from b v [] = refl
+told-from b v (c ∷ cs) = rw (agrees b v c) (ap (λ (l : List Told). bench-step b c .told ∷ l) (told-from (bench-step b c .next) (bench-step-valid b v c) cs))
+
+left-from : (b : Bench) → ValidBench b → (calls : List (Call (List ℤ)))
+    → left-after reference-step (reference-of b) (map fed calls) ≡ reference-of (left-after bench-step b calls)
+unfolding left-after
+left-from b v [] = refl
+left-from b v (c ∷ cs) =
+    ap (λ (x : Step Reference). left-after reference-step (x .next) (map fed cs)) (agrees b v c) ∙ left-from (bench-step b c .next) (bench-step-valid b v c) cs
+
+valid-from : (b : Bench) → ValidBench b → (calls : List (Call (List ℤ))) → ValidBench (left-after bench-step b calls)
+unfolding left-after
+valid-from b v [] = v
+valid-from b v (c ∷ cs) = valid-from (bench-step b c .next) (bench-step-valid b v c) cs
+
+-- "at first the fresh settings, no copy, tally 0"
+fresh-same : reference-of fresh ≡ fresh-reference
+fresh-same = ap (λ (s : Setup). record { settings = s; sending = none; sent = 0 }) (view-cell-set (record { 0 = 0 }) 1 _)
+
+fresh-bench-valid : ValidBench fresh
+fresh-bench-valid = record { sized = record { settings = refl; sending = refl }; model = subst ValidReference (sym fresh-same) fresh-reference-valid }
+
+-- "At every call of the list the bench gives the ledger's number, place and count, or none where the ledger has none, and an accepted draw leaves
+-- the ledger's m chips in the first m entries of its two buffers."
+pub answers : (calls : List (Call (List ℤ))) → told-by bench-step fresh calls ≡ told-by reference-step fresh-reference (map fed calls)
+answers calls = told-from fresh fresh-bench-valid calls ∙ ap (λ (r : Reference). told-by reference-step r (map fed calls)) fresh-same
+
+-- the bench that a list leaves stands for the reference model that it leaves
+pub reached : (calls : List (Call (List ℤ)))
+    → left-after reference-step fresh-reference (map fed calls) ≡ reference-of (left-after bench-step fresh calls)
+reached calls = ap (λ (r : Reference). left-after reference-step r (map fed calls)) (sym fresh-same) ∙ left-from fresh fresh-bench-valid calls
+
+-- both are valid
+pub bench-valid : (calls : List (Call (List ℤ))) → ValidBench (left-after bench-step fresh calls)
+bench-valid = valid-from fresh fresh-bench-valid
+
+pub reference-valid : (calls : List (Call (List ℤ))) → ValidReference (left-after reference-step fresh-reference (map fed calls))
+reference-valid calls = subst ValidReference (sym (reached calls)) (bench-valid calls .model)

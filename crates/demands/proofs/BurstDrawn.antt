@@ -1,0 +1,78 @@
+-- Demand 2 of a slot's own chips: a burst drawn from a slot with nothing open is read back. Assumes nothing.
+use mathlib.Core.Path.{_≡_, refl, ap, ap₂, _∙_}
+use mathlib.Core.Bool.{Bool, true, false, cond}
+use mathlib.Core.List.{List, List·Memᴰ}
+use mathlib.Core.Option.{none, some}
+use Prim.Native.Nat.{ℕ, _+_, _-_, _<_}
+use native.Mathlib.Omega.{arith}
+use lib.Dec.{ltb}
+use lib.IntN.{ℤ}
+use Rattle.complex.specs.declared.Complex.{Complex}
+use Rattle.complex.specs.Arithmetic.{𝟎, _⊕_}
+use Rattle.complex.specs.Buffers.{Values, in-buffers}
+use Rattle.complex.proofs.Ring.{𝟎-⊕, ⊕-𝟎}
+use Rattle.complex.proofs.Sums.{Σ-𝟎}
+use Rattle.codes.specs.Burst.{burst, burst-start}
+use Rattle.codes.specs.Refusals.{gives}
+use Rattle.codes.specs.Scrambling.{code-group}
+use Rattle.slot.specs.Setup.{SyncSetup, Setup}
+use Rattle.slot.specs.Slot.{over-codes, channel-chip, data-chip, sync-chip, chip, burst-type}
+use Rattle.slot.proofs.BurstPlace.{burst-whole, without-sync}
+use Rattle.sync_analyser.specs.SyncReading.{of-group, read-sync-call}
+use Rattle.demands.specs.Calls.{Call}
+use Rattle.demands.specs.Slots.{Slot, slots}
+use Rattle.demands.specs.Fields.{part, Drawn}
+use Rattle.demands.proofs.BurstReadBack.{burst-read-back}
+use Rattle.demands.proofs.Valid.{HeldSync, Valid}
+use Rattle.demands.proofs.History.{in-order, slot-valid}
+use Rattle.demands.proofs.FieldReadings.{in-buffers-cong, drawn-part}
+
+-- with nothing open and no sync a slot is silent
+data-silent : (s : Setup) → ((Q k : ℕ) → s .channel Q k ≡ none) → (before q : ℕ) → data-chip s before q ≡ 𝟎
+unfolding data-chip channel-chip
+data-silent s h before q =
+    (λ i. over-codes (λ Q k. channel-chip (s .cell) before q Q k (h Q k i)))
+    ∙ simp (Σ-𝟎, ⊕-𝟎)
+
+silent : (s : Setup) → ((Q k : ℕ) → s .channel Q k ≡ none) → (x : ℕ) → chip (without-sync s) x ≡ 𝟎
+unfolding chip sync-chip
+silent s h x =
+    let t = burst-type (s .type) in
+    let second = t .field1 + t .midamble in
+    either (ltb x (t .field1)) (both 0 x) (either (ltb x second) refl (either (ltb x (second + t .field2)) (both (t .field1) (x - second)) refl))
+  where
+    either : (b : Bool) {y z : Complex} → y ≡ 𝟎 → z ≡ 𝟎 → cond b y z ≡ 𝟎
+    either true p q = p
+    either false p q = q
+
+    both : (before q : ℕ) → data-chip (without-sync s) before q ⊕ 𝟎 ≡ 𝟎
+    both before q = ⊕-𝟎 _ ∙ data-silent (without-sync s) h before q
+
+-- "a sync burst standing alone, read with its own case, comes back as the group, frame and slot it was made for": of the 256 chips that draws left
+pub burst-drawn : (calls : List (Call (List ℤ))) (slot : Slot) → List·Memᴰ slot (slots calls) → (y : SyncSetup)
+    → (let s = slot .settings in let g = code-group (s .cell) in let x = burst-start g in
+    s .sync ≡ some y → ((Q k : ℕ) → s .channel Q k ≡ none) → Drawn slot x 256
+    → read-sync-call (y .case) (part x 256 (slot .chips .re)) (part x 256 (slot .chips .im)) ≡ gives (of-group g (y .frame) (y .half)))
+burst-drawn calls slot i y e nothing drawn =
+    let p = drawn-part slot v (in-order calls slot i) x 256 drawn in
+    ap₂ (read-sync-call (y .case)) (p .0) (p .1)
+    ∙ ap (λ (b : Values). read-sync-call (y .case) (b .re) (b .im)) (in-buffers-cong 256 _ _ chip-is)
+    ∙ burst-read-back (y .case) g (y .frame) (y .half) (y .gP) (y .gS) (h .case) (omega (arith, v .cell)) (h .frame-and-half) (h .P-above-0) (h .P-at-most) (h .S-above-0) (h .S-at-most)
+  where
+    s : Setup
+    s = slot .settings
+
+    g : ℕ
+    g = code-group (s .cell)
+
+    x : ℕ
+    x = burst-start g
+
+    v : Valid s
+    v = slot-valid calls slot i
+
+    h : HeldSync (s .type) y
+    h = v .sync y e
+
+    chip-is : (n : ℕ) → n < 256 → chip s (x + n) ≡ burst (y .case) g (y .frame) (y .half) (y .gP) (y .gS) n
+    chip-is n l = burst-whole s y (h .type) (v .cell) e n l ∙ ap (λ (z : Complex). z ⊕ burst (y .case) g (y .frame) (y .half) (y .gP) (y .gS) n) (silent s nothing (x + n)) ∙ 𝟎-⊕ _

@@ -1,0 +1,127 @@
+-- What read gives for a data field of a slot: demand 3's readings. Assumes nothing.
+use mathlib.Core.Path.{_≡_, refl, sym, ap, ap₂, subst, _∙_}
+use mathlib.Core.Logic.{_≢_}
+use mathlib.Core.Bool.{Bool, true, false, not, _&&_, _||_, cond}
+use mathlib.Core.List.{List, [], _∷_, List·Memᴰ}
+use mathlib.Core.Option.{Option, none, some}
+use Prim.Native.Nat.{ℕ, _+_, _*_, _-_, _/_, _%_, _≤_, _<_}
+use native.Mathlib.Nat.{div-mul-le-self, mul-le-mul-right}
+use native.Mathlib.Omega.{arith}
+use borrow.Author.Tests.{lt-leb, le-leb, lt-ltb, le-ltb, eq-eqb, ne-eqb, ltb-true, leb-true}
+use mir.Facts.{and-yes}
+use lib.Dec.{T, eqb, leb, ltb, lit≤, ltb→lt}
+use lib.IntN.{ℤ, pos}
+use lib.ListN.{length, getD}
+use Rattle.complex.specs.declared.Complex.{Complex}
+use Rattle.complex.specs.Arithmetic.{real, 𝟎, _⊕_, _⊗_, conj, Σ<}
+use Rattle.complex.specs.Buffers.{value, listed, Values, in-buffers}
+use Rattle.complex.specs.Fits.{Both}
+use Rattle.complex.proofs.Components.{both-more}
+use Rattle.complex.proofs.Lists.{length-listed, listed-cong, value-in-buffers}
+use Rattle.complex.proofs.Ring.{⊕-𝟎, 𝟎-⊗}
+use Rattle.complex.proofs.Sizes.{within-more}
+use Rattle.complex.proofs.Sums.{Σ-cong, Σ-𝟎}
+use Rattle.codes.specs.Refusals.{Answer, gives}
+use Rattle.codes.specs.Burst.{burst-start}
+use Rattle.codes.specs.Scrambling.{scrambling, code-group}
+use Rattle.codes.specs.Tree.{is-code, is-spreading-factor, element}
+use Rattle.codes.proofs.Factors.{factor-range}
+use Rattle.codes.proofs.Tests.{T-true}
+use Rattle.analyser.specs.Components.{outside}
+use Rattle.analyser.specs.Reading.{reading, no-field, read-call}
+use Rattle.analyser.proofs.Ranges.{none-outside}
+use Rattle.slot.specs.Setup.{Channel, SyncSetup, Setup, is-some}
+use Rattle.slot.specs.Slot.{data-chip, sync-chip, chip}
+use Rattle.demands.specs.Slots.{Slot, InOrder}
+use Rattle.demands.specs.Fields.{Field, field-length, field-start, field-before, part, field-part, Drawn, DrawnWhole, field-read, reading-count, Suffice, own-readings, zero-readings, burst-read, quiet-read, added, BurstAdds, burst-at, no-burst}
+use Rattle.demands.proofs.Readings.{reading-additive}
+use Rattle.demands.proofs.Entries.{code-of}
+use Rattle.demands.proofs.Valid.{Valid}
+use Rattle.demands.proofs.FieldChips.{part-listed, Readable, readable, field-sync, chip-in-field, chip-within}
+
+-- equal values, equal buffers
+pub in-buffers-cong : (n : ℕ) (f g : ℕ → Complex) → ((i : ℕ) → i < n → f i ≡ g i) → in-buffers n f ≡ in-buffers n g
+in-buffers-cong n f g h = λ i. record { re = listed-cong n (λ j. f j .re) (λ j. g j .re) (λ j l. ap (λ (x : Complex). x .re) (h j l)) i; im = listed-cong n (λ j. f j .im) (λ j. g j .im) (λ j l. ap (λ (x : Complex). x .im) (h j l)) i }
+
+-- ---- a reading depends on its own chips alone
+module _ (p Q k : ℕ) where
+  reading-cong : (x y : ℕ → Complex) (n : ℕ) → ((i : ℕ) → i < Q → x (n * Q + i) ≡ y (n * Q + i)) → reading p Q k x n ≡ reading p Q k y n
+  unfolding reading
+  reading-cong x y n h = Σ-cong Q _ _ (λ i l. ap (λ (z : Complex). z ⊗ conj (scrambling p (1 + (n * Q + i) % 16)) ⊗ real (element Q k i)) (h i l))
+
+  -- chips that are all 0 read 0
+  pub silent-reading : (n : ℕ) → reading p Q k (λ q. 𝟎) n ≡ 𝟎
+  unfolding reading
+  silent-reading n = Σ-cong Q _ (λ i. 𝟎) (λ i l. rw (𝟎-⊗, 𝟎-⊗)) ∙ Σ-𝟎 Q
+
+  -- the chips of reading n of a field of m chips
+  inside : (m n i : ℕ) → n < m / Q → i < Q → n * Q + i < m
+  inside m n i l h = omega (arith, div-mul-le-self m Q, mul-le-mul-right Q l)
+
+  pub field-cong : (m : ℕ) (x y : ℕ → Complex) → ((q : ℕ) → q < m → x q ≡ y q) → (n : ℕ) → n < m / Q → reading p Q k x n ≡ reading p Q k y n
+  field-cong m x y h n l = reading-cong x y n (λ i g. h (n * Q + i) (inside m n i l g))
+
+-- ---- read accepts a field whose components are in range
+module _ (p Q k n : ℕ) (x : ℕ → Complex) (l : p < 128) (c : is-code Q k ≡ true) (r : Readable n) (h : (q : ℕ) → q < n → Both 94185 (x q)) where
+  pub read-gives : (m m′ : ℕ) → n / Q ≤ m → n / Q ≤ m′ → read-call p Q k (in-buffers n x .re) (in-buffers n x .im) m m′ ≡ gives (in-buffers (n / Q) (reading p Q k x))
+  read-gives m m′ a b =
+      let code = code-of Q k c in
+      rw (lt-leb 128 p l, code .factor, lt-leb Q k (code .below), length-listed (λ i. x i .re) n, length-listed (λ i. x i .im) n, eq-eqb n n refl,
+      ne-eqb n 0 (λ e. omega arith), le-ltb 1104 n (r .at-most), eq-eqb (n % 16) 0 (r .blocks), none-outside n (λ i. x i .re) (λ i g. within-more (h i g .re) _ (lit≤ tt)), none-outside n (λ i. x i .im) (λ i g. within-more (h i g .im) _ (lit≤ tt)),
+      le-ltb m (n / Q) a, le-ltb m′ (n / Q) b)
+      (ap gives (in-buffers-cong (n / Q) _ _ (λ j g. field-cong p Q k n _ x (value-in-buffers n x) j g)))
+
+-- ---- a field of a slot whose chips were drawn
+-- where no burst chip falls, the chip is 0
+pub no-sync-chip : (s : Setup) (x : ℕ) → burst-at s x ≡ false → sync-chip (s .cell) (s .sync) x ≡ 𝟎
+unfolding sync-chip
+no-sync-chip s x e = go (s .sync) e
+  where
+    go : (y : Option SyncSetup) → (let start = burst-start (code-group (s .cell)) in is-some y && (leb start x && ltb x (start + 256))) ≡ false → sync-chip (s .cell) y x ≡ 𝟎
+    go none e = refl
+    go (some y) e = rw e
+
+module _ (slot : Slot) (v : Valid (slot .settings)) (o : InOrder slot) where
+  abbrev s : Setup
+  s = slot .settings
+
+  -- the drawn chips from chip x to chip x + n - 1
+  pub drawn-part : (x n : ℕ) → Drawn slot x n
+      → (part x n (slot .chips .re) ≡ in-buffers n (λ i. chip s (x + i)) .re) × (part x n (slot .chips .im) ≡ in-buffers n (λ i. chip s (x + i)) .im)
+  drawn-part x n d =
+      let e = o .chips in
+      let l : length (slot .chips .re) ≡ o .count = ap (λ (w : Values). length (w .re)) e ∙ length-listed _ (o .count) in
+      (ap (λ (w : Values). part x n (w .re)) e ∙ part-listed (pos 0) (λ i. chip s i .re) x n (o .count) (omega (arith, l)),
+      ap (λ (w : Values). part x n (w .im)) e ∙ part-listed (pos 0) (λ i. chip s i .im) x n (o .count) (omega (arith, l)))
+
+  pub drawn-chip : (x : ℕ) → x < length (slot .chips .re) → value (slot .chips .re) (slot .chips .im) x ≡ chip s x
+  drawn-chip x l =
+      let e = o .chips in
+      ap (λ (w : Values). value (w .re) (w .im) x) e
+      ∙ value-in-buffers (o .count) (chip s) x (omega (arith, ap (λ (w : Values). length (w .re)) e, length-listed (λ i. chip s i .re) (o .count)))
+
+  module _ (f : Field) (Q k : ℕ) (c : is-code Q k ≡ true) where
+    -- what the data reads, and what the burst reads
+    abbrev of-data : ℕ → Complex
+    of-data = reading (s .cell) Q k (data-chip s (field-before s f))
+
+    abbrev of-burst : ℕ → Complex
+    of-burst = reading (s .cell) Q k (field-sync s f)
+
+    abbrev count : ℕ
+    count = reading-count s f Q
+
+    parts : (n : ℕ) → n < count → reading (s .cell) Q k (λ q. chip s (field-start s f + q)) n ≡ of-data n ⊕ of-burst n
+    parts n l =
+        field-cong (s .cell) Q k (field-length s f) _ (λ q. data-chip s (field-before s f) q ⊕ field-sync s f q) (chip-in-field s f) n l
+        ∙ reading-additive (s .cell) Q k (data-chip s (field-before s f)) (field-sync s f) n
+
+    module _ (m m′ : ℕ) (w : Suffice s f Q m m′) where
+      -- read accepts every field that was drawn whole, and burst and data add up
+      pub reads : DrawnWhole slot f → field-read slot f Q k m m′ ≡ gives (in-buffers count (λ n. of-data n ⊕ of-burst n))
+      reads d =
+          let p = drawn-part (field-start s f) (field-length s f) d in
+          ap₂ (λ (re im : List ℤ). read-call (s .cell) Q k re im m m′) (p .0) (p .1)
+          ∙ read-gives (s .cell) Q k (field-length s f) (λ q. chip s (field-start s f + q)) (v .cell) c (readable s (v .type) f)
+          (λ q l. chip-within s v _) m m′ (w .re) (w .im)
+          ∙ ap gives (in-buffers-cong count _ (λ n. of-data n ⊕ of-burst n) parts)

@@ -1,0 +1,127 @@
+-- Demand 2: "hardening the readings of a channel in a slot without sync yields the bits it held when that slot started". Assumes nothing.
+use mathlib.Core.Path.{_≡_, refl, sym, ap, subst, _∙_}
+use mathlib.Core.Bool.{Bool, true, false, not, cond}
+use mathlib.Core.List.{List, [], _∷_, _++_, List·Memᴰ}
+use mathlib.Core.Option.{none, some}
+use Prim.Native.Nat.{ℕ, _+_, _*_, _/_, _%_, _≤_, _<_}
+use native.Mathlib.Nat.{zero-div}
+use native.Mathlib.Decide.{ℕ-discrete}
+use native.Mathlib.Omega.{arith}
+use borrow.Author.Tests.{eq-eqb, ne-eqb, le-ltb}
+use lib.Dec.{eqb}
+use lib.IntN.{ℤ, pos}
+use lib.ListN.{length, getD, take, drop, length-drop, take-append-drop}
+use lib.Seq.{ext-getD, getD-drop, getD-take, length-take-le, take-all}
+use Rattle.complex.specs.declared.Complex.{Complex}
+use Rattle.complex.specs.Arithmetic.{real, _⊗_}
+use Rattle.complex.specs.Buffers.{value, listed, Values, in-buffers}
+use Rattle.complex.proofs.Lists.{length-listed, listed-at, listed-cong, value-in-buffers}
+use Rattle.codes.specs.Refusals.{Answer, gives}
+use Rattle.codes.specs.Tree.{among, is-spreading-factor}
+use Rattle.codes.proofs.Factors.{All, of-all, of-factors, factor-range}
+use Rattle.codes.proofs.Tests.{each-all}
+use Rattle.modulation.specs.Symbols.{pair, symbol}
+use Rattle.slot.specs.Setup.{Channel, Setup}
+use Rattle.slot.specs.Slot.{burst-type, bit-count}
+use Rattle.analyser.specs.Hardening.{hard-pair, hard-bit, harden-call}
+use Rattle.bench.proofs.Accepted.{Code}
+use Rattle.demands.specs.Calls.{Call}
+use Rattle.demands.specs.Slots.{Slot, slots}
+use Rattle.demands.specs.Fields.{Field, field-1, field-2, field-length, field-start, field-before, part, DrawnWhole, field-read, reading-count, Suffice, own-readings, burst-at, no-burst, field-bits}
+use Rattle.demands.proofs.Entries.{code-of}
+use Rattle.demands.proofs.Valid.{Held, Valid}
+use Rattle.demands.proofs.History.{slot-valid}
+use Rattle.demands.proofs.ReadingTheorems.{own-reading, is-code-of}
+use Rattle.orthogonality.proofs.Hardened.{hardened}
+
+-- ---- the bits of the two fields are those of the channel
+-- a channel's bits are two for each reading of both fields
+Split : ℕ → ℕ → Type 0
+Split t Q = 2 * (burst-type t .field1 / Q) + 2 * (burst-type t .field2 / Q) ≡ bit-count t Q
+
+split : (t Q : ℕ) → among t (1 ∷ 2 ∷ 3 ∷ []) ≡ true → is-spreading-factor Q ≡ true → Split t Q
+unfolding Split burst-type
+split t Q e f = of-all (λ t. (Q : ℕ) → is-spreading-factor Q ≡ true → Split t Q) (1 ∷ 2 ∷ 3 ∷ [])
+    (of-factors (Split 1) refl refl refl refl refl, (of-factors (Split 2) refl refl refl refl refl, (of-factors (Split 3) refl refl refl refl refl, tt))) t e Q f
+
+module _ (s : Setup) (Q : ℕ) (c : Channel) (t : among (s .type) (1 ∷ 2 ∷ 3 ∷ []) ≡ true) (q : is-spreading-factor Q ≡ true) (count : length (c .bits) ≡ bit-count (s .type) Q) where
+  enough : (f : Field) → 2 * (field-before s f / Q) + 2 * reading-count s f Q ≤ length (c .bits)
+  unfolding Split
+  enough field-1 = omega (arith, split (s .type) Q t q, count, zero-div Q)
+  enough field-2 = omega (arith, split (s .type) Q t q, count)
+
+  pub both-fields : field-bits s field-1 Q c ++ field-bits s field-2 Q c ≡ c .bits
+  unfolding Split
+  both-fields =
+      let n = 2 * (field-length s field-1 / Q) in
+      let e : 2 * (0 / Q) ≡ 0 = omega (arith, zero-div Q) in
+      (λ i. part (e i) n (c .bits) ++ take-all (2 * (field-length s field-2 / Q)) (drop n (c .bits)) (omega (arith, length-drop n (c .bits), split (s .type) Q t q, count)) i)
+      ∙ take-append-drop n (c .bits)
+
+-- ---- a reading's two bits
+module _ (Q g : ℕ) (some-Q : 0 < Q) (some-g : 0 < g) (bits : List ℕ) (h : (i : ℕ) → getD bits i 0 ≤ 1) where
+  own-bit : (first b : ℕ) → hard-bit (λ n. real (pos Q) ⊗ real (pos g) ⊗ symbol (pair bits (first + n))) b ≡ getD bits (2 * first + b) 0
+  unfolding hard-bit
+  own-bit first b = rw (hardened Q g (pair bits (first + b / 2)) some-Q some-g (omega (arith, h (2 * (first + b / 2)), h (2 * (first + b / 2) + 1)))) (go (ℕ-discrete (b % 2) 0))
+    where
+      go : Dec (b % 2 ≡ 0) → (let p = pair bits (first + b / 2) in cond (eqb (b % 2) 0) (p / 2) (p % 2) ≡ getD bits (2 * first + b) 0)
+      go (yes e) =
+          let i : 2 * (first + b / 2) ≡ 2 * first + b = omega arith in
+          let v : pair bits (first + b / 2) / 2 ≡ getD bits (2 * (first + b / 2)) 0 = omega (arith, h (2 * (first + b / 2) + 1)) in
+          rw (eq-eqb (b % 2) 0 e) (v ∙ ap (λ (n : ℕ). getD bits n 0) i)
+      go (no e) =
+          let i : 2 * (first + b / 2) + 1 ≡ 2 * first + b = omega arith in
+          let v : pair bits (first + b / 2) % 2 ≡ getD bits (2 * (first + b / 2) + 1) 0 = omega (arith, h (2 * (first + b / 2) + 1)) in
+          rw (ne-eqb (b % 2) 0 e) (v ∙ ap (λ (n : ℕ). getD bits n 0) i)
+
+-- ---- the theorem
+-- a slot without sync has no burst chip anywhere
+no-sync : (s : Setup) → s .sync ≡ none → (x n : ℕ) → no-burst s x n ≡ true
+no-sync s e x n = each-all n _ (λ i l. rw e)
+
+-- The bits of each field that was drawn whole, and of both fields together (`both-fields`).
+pub hard-bits : (calls : List (Call (List ℤ))) (slot : Slot) → List·Memᴰ slot (slots calls) → (f : Field) → DrawnWhole slot f
+    → (Q k : ℕ) (c : Channel) (m m′ n : ℕ) (r : Values)
+    → (let s = slot .settings in s .sync ≡ none → s .channel Q k ≡ some c → Suffice s f Q m m′ → 2 * reading-count s f Q ≤ n
+    → field-read slot f Q k m m′ ≡ gives r → harden-call (r .re) (r .im) n ≡ gives (field-bits s f Q c))
+unfolding hard-bit
+hard-bits calls slot i f whole Q k c m m′ n r quiet e w enough-bytes reads =
+    ap (λ (v : Values). harden-call (v .re) (v .im) n) same
+    ∙ rw (length-listed (λ j. own j .re) N, length-listed (λ j. own j .im) N, eq-eqb N N refl, le-ltb n (2 * N) enough-bytes)
+    (ap gives all)
+  where
+    s : Setup
+    s = slot .settings
+
+    v : Valid s
+    v = slot-valid calls slot i
+
+    h : Held (s .type) Q c
+    h = v .channel Q k c e
+
+    N : ℕ
+    N = reading-count s f Q
+
+    own : ℕ → Complex
+    own j = real (pos Q) ⊗ real (pos (c .gain)) ⊗ symbol (pair (c .bits) (field-before s f / Q + j))
+
+    same : r ≡ in-buffers N own
+    same = let p = own-reading calls slot i f whole Q k m m′ w c e (no-sync s quiet (field-start s f) (field-length s f)) in cc
+
+    code : Code Q k
+    code = code-of Q k (is-code-of s v f Q k c e)
+
+    size : length (field-bits s f Q c) ≡ 2 * N
+    size =
+        length-take-le (2 * N) (drop (2 * (field-before s f / Q)) (c .bits))
+        (omega (arith, length-drop (2 * (field-before s f / Q)) (c .bits), enough s Q c (v .type) (code .factor) (h .count) f))
+
+    all : listed (2 * N) (hard-bit (value (in-buffers N own .re) (in-buffers N own .im))) ≡ field-bits s f Q c
+    all =
+        ext-getD 0 _ _ (length-listed _ (2 * N) ∙ sym size)
+        (λ b l.
+        let g : b < 2 * N = omega (arith, l, length-listed (hard-bit (value (in-buffers N own .re) (in-buffers N own .im))) (2 * N)) in
+        listed-at (hard-bit (value (in-buffers N own .re) (in-buffers N own .im))) 0 (2 * N) b g
+        ∙ ap (λ (y : Complex). cond (eqb (b % 2) 0) (hard-pair y / 2) (hard-pair y % 2)) (value-in-buffers N own (b / 2) (omega arith))
+        ∙ own-bit Q (c .gain) (factor-range Q (code .factor) .0) (h .above-0) (c .bits) (h .bit) (field-before s f / Q) b
+        ∙ sym (getD-take (2 * N) (drop (2 * (field-before s f / Q)) (c .bits)) b 0 g ∙ getD-drop (2 * (field-before s f / Q)) (c .bits) b 0))

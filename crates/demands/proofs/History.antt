@@ -1,0 +1,200 @@
+-- The accepted starts of every list of calls: the chips drawn after each are in order those of its settings, and a draw is refused 11 exactly where
+-- none is left. Assumes nothing.
+use lib.IntN.{ℤ}
+use mathlib.Core.Path.{_≡_, refl, sym, ap, ap₂, subst, _∙_}
+use mathlib.Core.Logic.{_↔_}
+use mathlib.Core.Bool.{Bool, true, false, not, cond}
+use mathlib.Core.List.{List, [], _∷_, _++_, map, append-assoc, append-nil, List·Memᴰ, List·Memᴰ·head, List·Memᴰ·tail}
+use mathlib.Core.Option.{Option, none, some, Option·none-ne-some, Option·some-ne-none, Option·some-injective}
+use Prim.Native.Nat.{ℕ, zero, suc, _+_, _-_, min}
+use native.Mathlib.Nat.{add-zero, add-suc}
+use native.Mathlib.Omega.{arith}
+use borrow.Author.Tests.{eqb-true}
+use lib.Dec.{eqb}
+use lib.ListN.{length}
+use Rattle.complex.specs.Buffers.{Values, listed, in-buffers}
+use Rattle.complex.proofs.Lists.{length-listed}
+use Rattle.codes.specs.Refusals.{Answer, refused, gives, _if_, _otherwise_}
+use Rattle.slot.specs.Setup.{Setup}
+use Rattle.slot.specs.Slot.{slot-length, chip}
+use Rattle.bench.specs.BenchCalls.{fresh, set-cell-refusals, open-refusals, AnswerAt, refused-at, loads, close-refusals, set-gain-refusals, load-bits-refusals, set-sync-refusals}
+use Rattle.demands.specs.Calls.{Call, set-cell, open-code, load-plan, close, set-gain, load-bits, set-sync, clear-sync, start, draw, refused-by, Step, told-by, left-after}
+use Rattle.demands.specs.Reference.{Reference, fresh-reference, cell-set, opened, closed, gain-set, bits-loaded, with-sync, plan-loaded, with-settings, by-entry, by-plan, drawn, reference-step, fed}
+use Rattle.demands.specs.BenchSteps.{bench-step}
+use Rattle.demands.specs.Slots.{Slot, extended, is-start, noted, slots-from, slots, InOrder, NothingLeft}
+use Rattle.demands.proofs.Valid.{Valid, ValidReference, fresh-reference-valid, reference-step-valid}
+use Rattle.demands.proofs.Answers.{seen, agrees, answers, reached, bench-valid, reference-valid}
+
+-- ---- a list in two parts
+listed-more : {A : Type 0} (f : ℕ → A) (n m : ℕ) → listed n f ++ listed m (λ i. f (n + i)) ≡ listed (n + m) f
+unfolding listed
+listed-more f n zero = rw add-zero (append-nil (listed n f))
+listed-more {A} f n (suc m) = rw add-suc (sym (append-assoc (listed n f) _ _) ∙ ap (λ (l : List A). l ++ (f (n + m) ∷ [])) (listed-more f n m))
+
+-- ---- what holds of each accepted start
+record Good (x : Slot) : Type 0 where
+  pub in-order : InOrder x
+  pub valid : Valid (x .settings)
+
+abbrev All : (Slot → Type 0) → List Slot → Type 0
+All P [] = Unit {0}
+All P (x ∷ xs) = P x × All P xs
+
+all-at : (P : Slot → Type 0) {x : Slot} {l : List Slot} → List·Memᴰ x l → All P l → P x
+all-at P (List·Memᴰ·head e) a = subst P (sym e) (a .0)
+all-at P (List·Memᴰ·tail m) a = all-at P m (a .1)
+
+-- what the reference model has of the last one: the copy while chips are left, and how many are out
+record Last (r : Reference) (x : Slot) : Type 0 where
+  pub copy : r .sending ≡ cond (eqb (r .sent) slot-length) none (some (x .settings))
+  pub chips : x .chips ≡ in-buffers (r .sent) (chip (x .settings))
+  pub valid : Valid (x .settings)
+
+-- and of all
+abbrev Noted : Reference → List Slot → Type 0
+Noted r [] = r .sending ≡ none
+Noted r (x ∷ past) = Last r x × All Good past
+
+all-good : (r : Reference) → ValidReference r → (past : List Slot) → Noted r past → All Good past
+all-good r v [] h = tt
+all-good r v (x ∷ past) h = (record { in-order = record { count = r .sent; at-most = v .at-most; chips = h .0 .chips }; valid = h .0 .valid }, h .1)
+
+-- ---- one call
+-- what is noted looks at the copy and the tally alone
+other-settings : (r : Reference) (s : Setup) (past : List Slot) → Noted r past → Noted (with-settings r s) past
+other-settings r s [] h = h
+other-settings r s (x ∷ past) h = (record { copy = h .0 .copy; chips = h .0 .chips; valid = h .0 .valid }, h .1)
+
+-- the step, with what it adds to the slots
+abbrev Kept : List Slot → Bool → Step Reference → Type 0
+Kept past t y = Noted (y .next) (noted (y .next .sending) t (y .told) past)
+
+module _ (r : Reference) (past : List Slot) (h : Noted r past) where
+  entry-kept : (x : Answer Setup) → Kept past false (by-entry r x)
+  entry-kept (refused n) = h
+  entry-kept (gives s) = other-settings r s past h
+
+  plan-kept : (x : AnswerAt Setup) → Kept past false (by-plan r x)
+  plan-kept (refused-at n place) = h
+  plan-kept (loads s) = other-settings r s past h
+
+abbrev model : Setup → Option Setup → ℕ → Reference
+model s o n = record { settings = s; sending = o; sent = n }
+
+start-kept : (s : Setup) (o : Option Setup) (n : ℕ) → ValidReference (model s o n) → (past : List Slot) → Noted (model s o n) past
+    → Kept past true (reference-step (model s o n) start)
+unfolding reference-step listed
+start-kept s none n v past h = (record { copy = refl; chips = refl; valid = v .settings }, all-good (model s none n) v past h)
+start-kept s (some c) n v past h = h
+
+-- the copy is the last accepted start's
+same-copy : {s c : Setup} {n : ℕ} {x : Slot} → Last (model s (some c) n) x → c ≡ x .settings
+same-copy {s} {c} {n} {x} l = go (eqb n slot-length) (l .copy)
+  where
+    go : (t : Bool) → some c ≡ cond t none (some (x .settings)) → c ≡ x .settings
+    go true e = absurd (Option·some-ne-none c e)
+    go false e = Option·some-injective c (x .settings) e
+
+-- m chips more are drawn
+more-drawn : (s c : Setup) (n m : ℕ) (x : Slot) (past : List Slot) → Last (model s (some c) n) x → All Good past
+    → Noted (model s (cond (eqb (n + m) slot-length) none (some c)) (n + m)) (extended (in-buffers m (λ i. chip c (n + i))) (x ∷ past))
+more-drawn s c n m x past l g =
+    let e = same-copy l in
+    let f = chip (x .settings) in (
+      record {
+        copy = ap (λ (u : Setup). cond (eqb (n + m) slot-length) none (some u)) e;
+        chips = rw (l .chips, e) (ap₂ (λ (a b : List ℤ). record { re = a; im = b }) (listed-more (λ i. f i .re) n m) (listed-more (λ i. f i .im) n m));
+        valid = l .valid;
+      },
+      g,
+    )
+
+draw-kept : (s : Setup) (o : Option Setup) (n : ℕ) (past : List Slot) → Noted (model s o n) past
+    → (a b : ℕ) → Kept past false (reference-step (model s o n) (draw a b))
+unfolding reference-step
+draw-kept s none n past h a b = h
+draw-kept s (some c) n [] h a b = absurd (Option·some-ne-none c h)
+draw-kept s (some c) n (x ∷ past) h a b = go (eqb a b) refl
+  where
+    go : (t : Bool) → eqb a b ≡ t → Kept (x ∷ past) false (reference-step (model s (some c) n) (draw a b))
+    go false e = rw e h
+    go true e = rw e (more-drawn s c n (min a (slot-length - n)) x past (h .0) (h .1))
+
+kept : (r : Reference) → ValidReference r → (past : List Slot) → Noted r past
+    → (c : Call (List ℤ)) → Kept past (is-start c) (reference-step r (fed c))
+unfolding reference-step fed
+kept r v past h (set-cell p t) = entry-kept r past h (set-cell-refusals p t otherwise cell-set p t)
+kept r v past h (open-code Q k g) = let s = r .settings in entry-kept r past h (open-refusals s Q k g otherwise opened s Q k g)
+kept r v past h (load-plan plan) = plan-kept r past h (plan-loaded (r .settings) plan)
+kept r v past h (close Q k) = let s = r .settings in entry-kept r past h (close-refusals s Q k otherwise closed s Q k)
+kept r v past h (set-gain Q k g) = let s = r .settings in entry-kept r past h (set-gain-refusals s Q k g otherwise gain-set s Q k g)
+kept r v past h (load-bits Q k bits) = let s = r .settings in entry-kept r past h (load-bits-refusals s Q k bits otherwise bits-loaded s Q k bits)
+kept r v past h (set-sync case frame half gP gS) =
+    let s = r .settings in
+    entry-kept r past h (set-sync-refusals s case frame half gP gS otherwise
+    with-sync s (some (record { case = case; frame = frame; half = half; gP = gP; gS = gS })))
+kept r v past h clear-sync = other-settings r (with-sync (r .settings) none) past h
+kept r v past h start = start-kept (r .settings) (r .sending) (r .sent) v past h
+kept r v past h (draw re im) = draw-kept (r .settings) (r .sending) (r .sent) past h (length re) (length im)
+
+-- ---- a list of calls
+noted-from : (r : Reference) → ValidReference r → (past : List Slot) → Noted r past → (calls : List (Call (List ℤ)))
+    → Noted (left-after reference-step r (map fed calls)) (slots-from r past calls (told-by reference-step r (map fed calls)))
+unfolding left-after told-by slots-from
+noted-from r v past h [] = h
+noted-from r v past h (c ∷ cs) =
+    let y = reference-step r (fed c) in
+    noted-from (y .next) (reference-step-valid r (fed c) v) (noted (y .next .sending) (is-start c) (y .told) past) (kept r v past h c) cs
+
+slots-noted : (calls : List (Call (List ℤ))) → Noted (left-after reference-step fresh-reference (map fed calls)) (slots calls)
+slots-noted calls = rw (answers calls) (noted-from fresh-reference fresh-reference-valid [] refl calls)
+
+slots-good : (calls : List (Call (List ℤ))) → All Good (slots calls)
+slots-good calls = all-good (left-after reference-step fresh-reference (map fed calls)) (reference-valid calls) (slots calls) (slots-noted calls)
+
+-- Demand 3: "The chips drawn after an accepted start are, in order, those of the settings at that start."
+pub in-order : (calls : List (Call (List ℤ))) (x : Slot) → List·Memᴰ x (slots calls) → InOrder x
+in-order calls x m = all-at Good m (slots-good calls) .in-order
+
+-- "The settings at a start are the copy that the ledger then makes": they are valid.
+pub slot-valid : (calls : List (Call (List ℤ))) (x : Slot) → List·Memᴰ x (slots calls) → Valid (x .settings)
+slot-valid calls x m = all-at Good m (slots-good calls) .valid
+
+-- ---- refusal 11
+-- as many chips are drawn as the tally says
+out : {r : Reference} {x : Slot} → Last r x → length (x .chips .re) ≡ r .sent
+out {r} {x} l = ap (λ (v : Values). length (v .re)) (l .chips) ∙ length-listed (λ i. chip (x .settings) i .re) (r .sent)
+
+-- without a copy all are out
+gone : {s : Setup} {n : ℕ} {x : Slot} → Last (model s none n) x → n ≡ slot-length
+gone {s} {n} {x} l = go (eqb n slot-length) refl (l .copy)
+  where
+    go : (t : Bool) → eqb n slot-length ≡ t → none ≡ cond t none (some (x .settings)) → n ≡ slot-length
+    go true e f = eqb-true n slot-length e
+    go false e f = absurd (Option·none-ne-some (x .settings) f)
+
+not-11 : (r : Reference) (m : ℕ) (t : Bool) → drawn r m (12 if t ∷ [] otherwise tt) .told ≡ refused-by 11 → ⊥
+not-11 r m true e = let z : _≡_ {A = ℕ} 12 11 = cc in omega arith
+not-11 r m false e = let z : _≡_ {A = ℕ} 0 1 = cc in omega arith
+
+draw-11 : (s : Setup) (o : Option Setup) (n : ℕ) → ValidReference (model s o n) → (past : List Slot) → Noted (model s o n) past
+    → (a b : ℕ) → (reference-step (model s o n) (draw a b) .told ≡ refused-by 11) ↔ NothingLeft past
+unfolding reference-step
+draw-11 s none n v [] h a b = (λ e. tt, λ e. refl)
+draw-11 s none n v (x ∷ past) h a b = (λ e. out (h .0) ∙ gone (h .0), λ e. refl)
+draw-11 s (some c) n v [] h a b = absurd (Option·some-ne-none c h)
+draw-11 s (some c) n v (x ∷ past) h a b =
+    (λ e. absurd (not-11 (model s (some c) n) _ (not (eqb a b)) e), λ e. absurd (omega (arith, e, out (h .0), v .below refl)))
+
+-- Demand 3: a draw is refused 11 exactly when "no start was accepted yet or all 2,560 chips of the last accepted one are out". "Saying 11 before chip
+-- 2,559 has gone out contradicts demand 3."
+pub refused-11 : (calls : List (Call (List ℤ))) (re im : List ℤ)
+    → (bench-step (left-after bench-step fresh calls) (draw re im) .told ≡ refused-by 11) ↔ NothingLeft (slots calls)
+unfolding fed
+refused-11 calls re im =
+    let b = left-after bench-step fresh calls in
+    let r = left-after reference-step fresh-reference (map fed calls) in
+    let same : reference-step r (draw (length re) (length im)) ≡ seen (bench-step b (draw re im)) =
+    rw (reached calls) (agrees b (bench-valid calls) (draw re im)) in
+    rw (← (ap (λ (y : Step Reference). y .told) same))
+    (draw-11 (r .settings) (r .sending) (r .sent) (reference-valid calls) (slots calls) (slots-noted calls) (length re) (length im))

@@ -1,0 +1,53 @@
+-- Demand 3's power: "Where none falls, counted from a field's start, the squared components of each 16 data chips add up to 16 times the sum of the
+-- squared gains." Assumes nothing.
+use mathlib.Core.Path.{_≡_, sym, ap, subst, _∙_}
+use mathlib.Core.Bool.{true, not}
+use mathlib.Core.List.{List, List·Memᴰ}
+use Prim.Native.Nat.{ℕ, _+_, _*_, _≤_, _<_}
+use native.Mathlib.Omega.{arith}
+use borrow.Author.Tests.{not-true}
+use lib.Dec.{T}
+use lib.IntN.{ℤ, pos}
+use lib.ListN.{length}
+use Rattle.complex.specs.declared.Complex.{Complex}
+use Rattle.complex.specs.Arithmetic.{squared-size, _⊕_}
+use Rattle.complex.specs.Buffers.{value, Values}
+use Rattle.complex.proofs.Ring.{⊕-𝟎}
+use Rattle.complex.proofs.Sums.{Σℤ-cong}
+use Rattle.codes.proofs.Tests.{each-at, T-true}
+use Rattle.slot.specs.Setup.{Setup}
+use Rattle.slot.specs.Slot.{data-chip, chip}
+use Rattle.orthogonality.specs.Gains.{squared-gains}
+use Rattle.demands.specs.Calls.{Call}
+use Rattle.demands.specs.Slots.{Slot, slots}
+use Rattle.demands.specs.Fields.{Field, field-length, field-start, field-before, Drawn, burst-at, no-burst, power-of-16}
+use Rattle.demands.proofs.Valid.{Valid}
+use Rattle.demands.proofs.History.{in-order, slot-valid}
+use Rattle.demands.proofs.FieldChips.{chip-in-field, unrelated}
+use Rattle.demands.proofs.FieldReadings.{no-sync-chip, drawn-chip}
+use Rattle.orthogonality.proofs.DataPower.{data-power}
+
+-- The 16 chips from chip 16m of a field on, all drawn, no burst chip among them; the field need not be drawn whole.
+pub power : (calls : List (Call (List ℤ))) (slot : Slot) → List·Memᴰ slot (slots calls) → (f : Field) (m : ℕ)
+    → (let s = slot .settings in 16 * m + 16 ≤ field-length s f → Drawn slot (field-start s f + 16 * m) 16
+    → no-burst s (field-start s f + 16 * m) 16 ≡ true → power-of-16 slot (field-start s f + 16 * m) ≡ pos (16 * squared-gains s))
+power calls slot i f m inside drawn quiet =
+    Σℤ-cong 16 _ _ (λ n l. ap squared-size (chip-is n l))
+    ∙ data-power s (v .cell) (unrelated s v) (λ Q k c t e. v .channel Q k c e .bit) (field-before s f) m
+  where
+    s : Setup
+    s = slot .settings
+
+    v : Valid s
+    v = slot-valid calls slot i
+
+    chip-is : (n : ℕ) → n < 16 → value (slot .chips .re) (slot .chips .im) (field-start s f + 16 * m + n) ≡ data-chip s (field-before s f) (m * 16 + n)
+    chip-is n l =
+        let x = field-start s f + 16 * m + n in
+        let e : x ≡ field-start s f + (m * 16 + n) = omega arith in
+        drawn-chip slot v (in-order calls slot i) x (omega arith)
+        ∙ ap (chip s) e
+        ∙ chip-in-field s f (m * 16 + n) (omega arith)
+        ∙ ap (λ (z : Complex). data-chip s (field-before s f) (m * 16 + n) ⊕ z)
+        (no-sync-chip s _ (ap (burst-at s) (sym e) ∙ not-true _ (T-true _ (each-at 16 (λ n. not (burst-at s (field-start s f + 16 * m + n))) (subst T (sym quiet) tt) n l))))
+        ∙ ⊕-𝟎 _

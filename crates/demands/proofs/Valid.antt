@@ -1,0 +1,298 @@
+-- What the settings of every bench satisfy: cell parameter and type are listed, the open codes are codes and unrelated, gains and bits are in their
+-- ranges. Each accepted call keeps it. Assumes nothing.
+use mathlib.Core.Path.{_≡_, refl, sym, subst, _∙_}
+use mathlib.Core.Logic.{_⊎_, inl, inr}
+use mathlib.Core.Bool.{Bool, true, false, not, _&&_, _||_, cond, and-comm, or-comm, false≢true}
+use mathlib.Core.List.{List, [], _∷_}
+use mathlib.Core.Option.{Option, none, some, Option·none-ne-some, Option·some-injective}
+use Prim.Native.Nat.{ℕ, suc, _+_, _-_, _≤_, _<_, min}
+use native.Mathlib.Decide.{decLt}
+use native.Mathlib.Omega.{arith}
+use borrow.Author.Tests.{leb-false, eqb-true, eqb-false, not-false}
+use lib.Dec.{T, eqb, eqb→eq, leb, leb→le, ltb, ltb→lt}
+use lib.ListN.{length, getD, replicate, length-replicate, getD-replicate, List·getD-eq-default}
+use mir.Facts.{and-yes}
+use Rattle.codes.specs.Refusals.{Answer, refused, gives, Refusal, _if_, _otherwise_}
+use Rattle.codes.specs.Range.{any}
+use Rattle.codes.specs.Tree.{among, is-spreading-factor, is-code, at-or-above, related}
+use Rattle.codes.specs.Allocation.{one-or-two, is-frame-and-half}
+use Rattle.codes.proofs.Refused.{Passed}
+use Rattle.codes.proofs.Tests.{T-true, neither, none-at}
+use Rattle.codes.proofs.Factors.{of-factors}
+use Rattle.slot.specs.Setup.{Channel, SyncSetup, Setup, is-some, is-open}
+use Rattle.slot.specs.Slot.{slot-length, bit-count}
+use Rattle.bench.specs.declared.Channel.{Channel as Record}
+use Rattle.bench.specs.BenchCalls.{bad-gain, some-code, related-to-open, set-cell-refusals, open-refusals, AnswerAt, refused-at, loads, close-refusals, set-gain-refusals, load-bits-refusals, set-sync-refusals}
+use Rattle.bench.proofs.Accepted.{good-code}
+use Rattle.bench.proofs.Loading.{is-bit}
+use Rattle.demands.specs.Calls.{Call, set-cell, open-code, load-plan, close, set-gain, load-bits, set-sync, clear-sync, start, draw}
+use Rattle.demands.specs.Reference.{Reference, cell-set, fresh-reference, with-channel, opened, closed, changed, gain-set, bits-loaded, with-sync, nothing-open, records-opened, plan-loaded, under-way, by-entry, by-plan, started, drawn, reference-step}
+use Rattle.demands.proofs.Otherwise.{either-way}
+use Rattle.demands.proofs.TableLaws.{OnlyItself}
+
+-- an open code's gain and bits in burst type t: "gain 1 to 4095", "2(F1+F2)/Q bits", "one byte a bit"
+pub record Held (t Q : ℕ) (c : Channel) : Type 0 where
+  pub above-0 : 1 ≤ c .gain
+  pub at-most : c .gain ≤ 4095
+  pub count : length (c .bits) ≡ bit-count t Q
+  pub bit : (i : ℕ) → getD (c .bits) i 0 ≤ 1
+
+-- a sync burst in burst type t: what set sync does not refuse
+pub record HeldSync (t : ℕ) (y : SyncSetup) : Type 0 where
+  pub type : t ≡ 1
+  pub case : T (one-or-two (y .case))
+  pub frame-and-half : T (is-frame-and-half (y .case) (y .frame) (y .half))
+  pub P-above-0 : 1 ≤ y .gP
+  pub P-at-most : y .gP ≤ 4095
+  pub S-above-0 : 1 ≤ y .gS
+  pub S-at-most : y .gS ≤ 4095
+
+pub record Valid (s : Setup) : Type 0 where
+  pub cell : s .cell < 128
+  pub type : among (s .type) (1 ∷ 2 ∷ 3 ∷ []) ≡ true
+  pub code : (Q k : ℕ) → is-open s Q k ≡ true → is-code Q k ≡ true
+  pub apart : (Q k Q′ k′ : ℕ) → is-open s Q k ≡ true → is-open s Q′ k′ ≡ true → related Q′ k′ Q k ≡ true → (Q′ ≡ Q) × (k′ ≡ k)
+  pub channel : (Q k : ℕ) (c : Channel) → s .channel Q k ≡ some c → Held (s .type) Q c
+  pub sync : (y : SyncSetup) → s .sync ≡ some y → HeldSync (s .type) y
+
+-- ---- settings with nothing open
+none-open-valid : (p t : ℕ) (y : Option SyncSetup) → p < 128 → among t (1 ∷ 2 ∷ 3 ∷ []) ≡ true → ((z : SyncSetup) → y ≡ some z → HeldSync t z)
+    → Valid (record { cell = p; type = t; channel = λ Q k. none; sync = y })
+none-open-valid p t y c d f =
+    record {
+      cell = c;
+      type = d;
+      code = λ Q k o. absurd (false≢true o);
+      apart = λ Q k Q′ k′ o o′ r. absurd (false≢true o);
+      channel = λ Q k x e. absurd (Option·none-ne-some x e);
+      sync = f;
+    }
+
+no-sync-held : (t : ℕ) (y : SyncSetup) → none ≡ some y → HeldSync t y
+no-sync-held t y e = absurd (Option·none-ne-some y e)
+
+pub cell-set-valid : (p t : ℕ) → Passed (set-cell-refusals p t) → Valid (cell-set p t)
+cell-set-valid p t h = none-open-valid p t none (leb-false 128 p (h .0)) (not-false _ (h .1 .0)) (no-sync-held t)
+
+pub fresh-valid : Valid (cell-set 0 1)
+fresh-valid = none-open-valid 0 1 none (omega arith) refl (no-sync-held 1)
+
+pub nothing-open-valid : (s : Setup) → Valid s → Valid (nothing-open s)
+nothing-open-valid s v = none-open-valid (s .cell) (s .type) (s .sync) (v .cell) (v .type) (v .sync)
+
+-- ---- what one code holds is changed
+related-sym : (Q k Q′ k′ : ℕ) → related Q k Q′ k′ ≡ related Q′ k′ Q k
+unfolding related
+related-sym Q k Q′ k′ = rw (and-comm (is-code Q k), or-comm (at-or-above Q k Q′ k′))
+
+same-code : (Q k Q′ k′ : ℕ) → (eqb Q′ Q && eqb k′ k) ≡ true → (Q′ ≡ Q) × (k′ ≡ k)
+same-code Q k Q′ k′ e =
+    let p = and-yes (eqb Q′ Q) (eqb k′ k) (subst T (sym e) tt) in
+    (eqb→eq Q′ Q (p .0), eqb→eq k′ k (p .1))
+
+-- the code is a code, unrelated to the open ones but itself, and what it then holds is in its ranges
+module _ (s : Setup) (v : Valid s) (Q k : ℕ) (listed : is-code Q k ≡ true) (alone : OnlyItself s Q k)
+    (o : Option Channel) (held : (c : Channel) → o ≡ some c → Held (s .type) Q c) where
+  was-open : (Q′ k′ : ℕ) → is-open (with-channel s Q k o) Q′ k′ ≡ true → ((Q′ ≡ Q) × (k′ ≡ k)) ⊎ (is-open s Q′ k′ ≡ true)
+  unfolding with-channel
+  was-open Q′ k′ h = go (eqb Q′ Q && eqb k′ k) refl h
+    where
+      go : (t : Bool) → (eqb Q′ Q && eqb k′ k) ≡ t → is-some (cond t o (s .channel Q′ k′)) ≡ true → ((Q′ ≡ Q) × (k′ ≡ k)) ⊎ (is-open s Q′ k′ ≡ true)
+      go true e i = inl (same-code Q k Q′ k′ e)
+      go false e i = inr i
+
+  code-then : (Q′ k′ : ℕ) → ((Q′ ≡ Q) × (k′ ≡ k)) ⊎ (is-open s Q′ k′ ≡ true) → is-code Q′ k′ ≡ true
+  code-then Q′ k′ (inl e) = rw (e .0, e .1) listed
+  code-then Q′ k′ (inr h) = v .code Q′ k′ h
+
+  apart-then : (Q₁ k₁ Q₂ k₂ : ℕ) → ((Q₁ ≡ Q) × (k₁ ≡ k)) ⊎ (is-open s Q₁ k₁ ≡ true) → ((Q₂ ≡ Q) × (k₂ ≡ k)) ⊎ (is-open s Q₂ k₂ ≡ true)
+      → related Q₂ k₂ Q₁ k₁ ≡ true → (Q₂ ≡ Q₁) × (k₂ ≡ k₁)
+  apart-then Q₁ k₁ Q₂ k₂ (inl e) (inl f) r = (f .0 ∙ sym (e .0), f .1 ∙ sym (e .1))
+  apart-then Q₁ k₁ Q₂ k₂ (inl e) (inr h) r = let f = alone Q₂ k₂ h (rw (e .0, e .1) at r) in (f .0 ∙ sym (e .0), f .1 ∙ sym (e .1))
+  apart-then Q₁ k₁ Q₂ k₂ (inr h) (inl f) r = let e = alone Q₁ k₁ h (rw (f .0, f .1, related-sym Q k Q₁ k₁) at r) in (f .0 ∙ sym (e .0), f .1 ∙ sym (e .1))
+  apart-then Q₁ k₁ Q₂ k₂ (inr h) (inr i) r = v .apart Q₁ k₁ Q₂ k₂ h i r
+
+  held-then : (Q′ k′ : ℕ) (c : Channel) → with-channel s Q k o .channel Q′ k′ ≡ some c → Held (s .type) Q′ c
+  unfolding with-channel
+  held-then Q′ k′ c h = go (eqb Q′ Q && eqb k′ k) refl h
+    where
+      go : (t : Bool) → (eqb Q′ Q && eqb k′ k) ≡ t → cond t o (s .channel Q′ k′) ≡ some c → Held (s .type) Q′ c
+      go true e h = rw (same-code Q k Q′ k′ e .0) (held c h)
+      go false e h = v .channel Q′ k′ c h
+
+  with-channel-valid : Valid (with-channel s Q k o)
+  unfolding with-channel
+  with-channel-valid =
+      record {
+        cell = v .cell;
+        type = v .type;
+        code = λ Q′ k′ h. code-then Q′ k′ (was-open Q′ k′ h);
+        apart = λ Q₁ k₁ Q₂ k₂ h i r. apart-then Q₁ k₁ Q₂ k₂ (was-open Q₁ k₁ h) (was-open Q₂ k₂ i) r;
+        channel = held-then;
+        sync = v .sync;
+      }
+
+-- ---- what the refusals let pass
+holds : (t : Bool) → not t ≡ false → T t
+holds t e = subst T (sym (not-false t e)) tt
+
+pub gain-range : (g : ℕ) → bad-gain g ≡ false → (1 ≤ g) × (g ≤ 4095)
+gain-range g e =
+    let p = and-yes (leb 1 g) (leb g 4095) (holds (leb 1 g && leb g 4095) e) in
+    (leb→le 1 g (p .0), leb→le g 4095 (p .1))
+
+-- a test that passes at no code
+no-code-passes : (f : ℕ → ℕ → Bool) → some-code f ≡ false → (Q k : ℕ) → is-code Q k ≡ true → f Q k ≡ false
+no-code-passes f e Q k c =
+    let p₁₆ = neither (any 1 (f 1) || any 2 (f 2) || any 4 (f 4) || any 8 (f 8)) (any 16 (f 16)) e in
+    let p₈ = neither (any 1 (f 1) || any 2 (f 2) || any 4 (f 4)) (any 8 (f 8)) (p₁₆ .0) in
+    let p₄ = neither (any 1 (f 1) || any 2 (f 2)) (any 4 (f 4)) (p₈ .0) in
+    let p₂ = neither (any 1 (f 1)) (any 2 (f 2)) (p₄ .0) in
+    let q = and-yes (is-spreading-factor Q) (ltb k Q) (subst T (sym c) tt) in
+    of-factors (λ (Q : ℕ). k < Q → f Q k ≡ false)
+    (none-at 1 (f 1) (p₂ .0) k) (none-at 2 (f 2) (p₂ .1) k) (none-at 4 (f 4) (p₄ .1) k) (none-at 8 (f 8) (p₈ .1) k) (none-at 16 (f 16) (p₁₆ .1) k)
+    Q (T-true (is-spreading-factor Q) (q .0)) (ltb→lt k Q (q .1))
+
+zeros : (n i : ℕ) → getD (replicate {A = ℕ} n 0) i 0 ≤ 1
+zeros n i = go (decLt i n)
+  where
+    go : Dec (i < n) → getD (replicate {A = ℕ} n 0) i 0 ≤ 1
+    go (yes l) = rw (getD-replicate {A = ℕ} n i 0 0 l) (omega arith)
+    go (no l) = rw (List·getD-eq-default {A = ℕ} (replicate n 0) 0 {n = i} (rw (length-replicate {A = ℕ} n 0) (omega arith))) (omega arith)
+
+-- ---- the entries
+module _ (s : Setup) (v : Valid s) where
+  -- an open code may be changed
+  pub only-itself : (Q k : ℕ) → is-open s Q k ≡ true → OnlyItself s Q k
+  only-itself Q k o Q′ k′ o′ r = v .apart Q k Q′ k′ o o′ r
+
+  -- a code unrelated to the open ones may be opened
+  unrelated : (Q k : ℕ) → related-to-open s Q k ≡ false → OnlyItself s Q k
+  unrelated Q k e Q′ k′ o r =
+      let z : true ≡ false = sym (rw (o, r)) ∙ no-code-passes (λ Q′ k′. is-open s Q′ k′ && related Q′ k′ Q k) e Q′ k′ (v .code Q′ k′ o) in
+      absurd (false≢true (sym z))
+
+  pub opened-valid : (Q k g : ℕ) → Passed (open-refusals s Q k g) → Valid (opened s Q k g)
+  opened-valid Q k g h =
+      with-channel-valid s v Q k (good-code Q k (h .0) (h .1 .0) .listed) (unrelated Q k (h .1 .1 .1 .0)) _
+      (λ c e. subst (Held (s .type) Q) (Option·some-injective _ c e) (record {
+        above-0 = gain-range g (h .1 .1 .0) .0;
+        at-most = gain-range g (h .1 .1 .0) .1;
+        count = length-replicate {A = ℕ} _ 0;
+        bit = zeros (bit-count (s .type) Q);
+      }))
+
+  pub closed-valid : (Q k : ℕ) → Passed (close-refusals s Q k) → Valid (closed s Q k)
+  closed-valid Q k h =
+      with-channel-valid s v Q k (good-code Q k (h .0) (h .1 .0) .listed) (only-itself Q k (not-false _ (h .1 .1 .0))) none
+      (λ c e. absurd (Option·none-ne-some c e))
+
+  -- what an open code holds is changed, within its ranges
+  changed-held : (Q k : ℕ) (f : Channel → Channel) → ((c : Channel) → Held (s .type) Q c → Held (s .type) Q (f c))
+      → (c : Channel) → changed f (s .channel Q k) ≡ some c → Held (s .type) Q c
+  changed-held Q k f h c e = go (s .channel Q k) refl e
+    where
+      go : (o : Option Channel) → s .channel Q k ≡ o → changed f o ≡ some c → Held (s .type) Q c
+      go none q e = absurd (Option·none-ne-some c e)
+      go (some d) q e = subst (Held (s .type) Q) (Option·some-injective (f d) c e) (h d (v .channel Q k d q))
+
+  pub gain-set-valid : (Q k g : ℕ) → Passed (set-gain-refusals s Q k g) → Valid (gain-set s Q k g)
+  gain-set-valid Q k g h =
+      with-channel-valid s v Q k (good-code Q k (h .0) (h .1 .0) .listed) (only-itself Q k (not-false _ (h .1 .1 .1 .0))) _
+      (changed-held Q k (λ c. record { gain = g; bits = c .bits })
+      (λ c d. record { above-0 = gain-range g (h .1 .1 .0) .0; at-most = gain-range g (h .1 .1 .0) .1; count = d .count; bit = d .bit }))
+
+  pub bits-loaded-valid : (Q k : ℕ) (bits : List ℕ) → Passed (load-bits-refusals s Q k bits) → Valid (bits-loaded s Q k bits)
+  bits-loaded-valid Q k bits h =
+      with-channel-valid s v Q k (good-code Q k (h .0) (h .1 .0) .listed) (only-itself Q k (not-false _ (h .1 .1 .0))) _
+      (changed-held Q k (λ c. record { gain = c .gain; bits = bits })
+      (λ c d. record { above-0 = d .above-0; at-most = d .at-most; count = eqb-true _ _ (not-false _ (h .1 .1 .1 .0)); bit = is-bit bits (h .1 .1 .1 .1 .0) }))
+
+  with-sync-valid : (y : Option SyncSetup) → ((z : SyncSetup) → y ≡ some z → HeldSync (s .type) z) → Valid (with-sync s y)
+  with-sync-valid y f = record { cell = v .cell; type = v .type; code = v .code; apart = v .apart; channel = v .channel; sync = f }
+
+  pub sync-set-valid : (case frame half gP gS : ℕ) → Passed (set-sync-refusals s case frame half gP gS)
+      → Valid (with-sync s (some (record { case = case; frame = frame; half = half; gP = gP; gS = gS })))
+  sync-set-valid case frame half gP gS h =
+      let g = neither (bad-gain gP) (bad-gain gS) (h .1 .1 .1 .0) in
+      with-sync-valid _ (λ z e. subst (HeldSync (s .type)) (Option·some-injective _ z e) (record {
+        type = eqb-true _ _ (not-false _ (h .0));
+        case = holds (one-or-two case) (h .1 .0);
+        frame-and-half = holds (is-frame-and-half case frame half) (h .1 .1 .0);
+        P-above-0 = gain-range gP (g .0) .0;
+        P-at-most = gain-range gP (g .0) .1;
+        S-above-0 = gain-range gS (g .1) .0;
+        S-at-most = gain-range gS (g .1) .1;
+      }))
+
+  pub sync-cleared-valid : Valid (with-sync s none)
+  sync-cleared-valid = with-sync-valid none (no-sync-held (s .type))
+
+-- what load plan loads, where it does
+abbrev pub Loads : (Setup → Type 0) → AnswerAt Setup → Type 0
+Loads P (refused-at n place) = Unit {0}
+Loads P (loads s) = P s
+
+pub records-opened-valid : (place : ℕ) (s : Setup) (cs : List Record) → Valid s → Loads Valid (records-opened place s cs)
+unfolding records-opened
+records-opened-valid place s [] v = v
+records-opened-valid place s (c ∷ cs) v =
+    either-way (λ (x : Answer Setup). Loads Valid (elim x [ refused n ↦ refused-at n place | gives next ↦ records-opened (suc place) next cs ]))
+    (λ n. tt) (open-refusals s (c .q) (c .k) (c .gain)) (opened s (c .q) (c .k) (c .gain))
+    (λ p. records-opened-valid (suc place) (opened s (c .q) (c .k) (c .gain)) cs (opened-valid s v (c .q) (c .k) (c .gain) p))
+
+-- ---- the reference model
+pub record ValidReference (r : Reference) : Type 0 where
+  pub settings : Valid (r .settings)
+  pub sending : (s : Setup) → r .sending ≡ some s → Valid s
+  pub at-most : r .sent ≤ slot-length
+  pub below : is-some (r .sending) ≡ true → r .sent < slot-length
+
+pub fresh-reference-valid : ValidReference fresh-reference
+fresh-reference-valid =
+    record { settings = fresh-valid; sending = λ s e. absurd (Option·none-ne-some s e); at-most = omega arith; below = λ e. omega arith }
+
+module _ (r : Reference) (v : ValidReference r) where
+  entry-valid : (rs : List Refusal) {s : Setup} → (Passed rs → Valid s) → ValidReference (by-entry r (rs otherwise s) .next)
+  entry-valid rs {s} h =
+      either-way (λ (x : Answer Setup). ValidReference (by-entry r x .next)) (λ n. v) rs s
+      (λ p. record { settings = h p; sending = v .sending; at-most = v .at-most; below = v .below })
+
+  plan-valid : (x : AnswerAt Setup) → Loads Valid x → ValidReference (by-plan r x .next)
+  plan-valid (refused-at n place) h = v
+  plan-valid (loads s) h = record { settings = h; sending = v .sending; at-most = v .at-most; below = v .below }
+
+  start-valid : (rs : List Refusal) → ValidReference (started r (rs otherwise tt) .next)
+  start-valid rs =
+      either-way (λ (x : Answer (Unit {0})). ValidReference (started r x .next)) (λ n. v) rs tt
+      (λ p. record { settings = v .settings; sending = λ s e. subst Valid (Option·some-injective _ s e) (v .settings); at-most = omega arith; below = λ e. omega arith })
+
+  -- at 2,560 the copy goes
+  draw-valid : (n : ℕ) (rs : List Refusal) → ValidReference (drawn r (min n (slot-length - r .sent)) (rs otherwise tt) .next)
+  draw-valid n rs =
+      let m : ℕ = min n (slot-length - r .sent) in
+      let l : r .sent + m ≤ slot-length = omega (arith, v .at-most) in
+      either-way (λ (x : Answer (Unit {0})). ValidReference (drawn r m x .next)) (λ n. v) rs tt
+      (λ p. go m l (eqb (r .sent + m) slot-length) refl)
+    where
+      go : (m : ℕ) → r .sent + m ≤ slot-length → (t : Bool) → eqb (r .sent + m) slot-length ≡ t
+          → ValidReference (record { settings = r .settings; sending = cond t none (r .sending); sent = r .sent + m })
+      go m l true e = record { settings = v .settings; sending = λ s e. absurd (Option·none-ne-some s e); at-most = l; below = λ e. absurd (false≢true e) }
+      go m l false e = record { settings = v .settings; sending = v .sending; at-most = l; below = λ o. omega (arith, eqb-false (r .sent + m) slot-length e) }
+
+-- "Each accepted call but start and draw changes the settings by its entry"
+pub reference-step-valid : (r : Reference) (c : Call ℕ) → ValidReference r → ValidReference (reference-step r c .next)
+unfolding reference-step
+reference-step-valid r (set-cell p t) v = entry-valid r v (set-cell-refusals p t) (cell-set-valid p t)
+reference-step-valid r (open-code Q k g) v = let s = r .settings in entry-valid r v (open-refusals s Q k g) (opened-valid s (v .settings) Q k g)
+reference-step-valid r (load-plan plan) v =
+    let s = r .settings in plan-valid r v (plan-loaded s plan) (records-opened-valid 0 (nothing-open s) plan (nothing-open-valid s (v .settings)))
+reference-step-valid r (close Q k) v = let s = r .settings in entry-valid r v (close-refusals s Q k) (closed-valid s (v .settings) Q k)
+reference-step-valid r (set-gain Q k g) v = let s = r .settings in entry-valid r v (set-gain-refusals s Q k g) (gain-set-valid s (v .settings) Q k g)
+reference-step-valid r (load-bits Q k bits) v =
+    let s = r .settings in entry-valid r v (load-bits-refusals s Q k bits) (bits-loaded-valid s (v .settings) Q k bits)
+reference-step-valid r (set-sync case frame half gP gS) v =
+    let s = r .settings in entry-valid r v (set-sync-refusals s case frame half gP gS) (sync-set-valid s (v .settings) case frame half gP gS)
+reference-step-valid r clear-sync v = entry-valid r v [] (λ p. sync-cleared-valid (r .settings) (v .settings))
+reference-step-valid r start v = start-valid r v (10 if under-way r ∷ [])
+reference-step-valid r (draw n n′) v = draw-valid r v n (11 if not (under-way r) ∷ 12 if not (eqb n n′) ∷ [])
