@@ -6,6 +6,8 @@ pub mod BurstSizes
 pub mod BurstReadBack
 pub mod Readings
 pub mod Instances
+pub mod Entries
+pub mod TableLaws
 pub mod Otherwise
 pub mod Valid
 pub mod Answers
