@@ -66,9 +66,21 @@ module _ (p Q k n : ℕ) (x : ℕ → Complex) (l : p < 128) (c : is-code Q k �
   pub read-gives : (m m′ : ℕ) → n / Q ≤ m → n / Q ≤ m′ → read-call p Q k (in-buffers n x .re) (in-buffers n x .im) m m′ ≡ gives (in-buffers (n / Q) (reading p Q k x))
   read-gives m m′ a b =
       let code = code-of Q k c in
-      rw (lt-leb 128 p l, code .factor, lt-leb Q k (code .below), length-listed (λ i. x i .re) n, length-listed (λ i. x i .im) n, eq-eqb n n refl,
-      ne-eqb n 0 (λ e. omega arith), le-ltb 1104 n (r .at-most), eq-eqb (n % 16) 0 (r .blocks), none-outside n (λ i. x i .re) (λ i g. within-more (h i g .re) _ (lit≤ tt)), none-outside n (λ i. x i .im) (λ i g. within-more (h i g .im) _ (lit≤ tt)),
-      le-ltb m (n / Q) a, le-ltb m′ (n / Q) b)
+      rw (
+        lt-leb 128 p l,
+        code .factor,
+        lt-leb Q k (code .below),
+        length-listed (λ i. x i .re) n,
+        length-listed (λ i. x i .im) n,
+        eq-eqb n n refl,
+        ne-eqb n 0 (λ e. omega arith),
+        le-ltb 1104 n (r .at-most),
+        eq-eqb (n % 16) 0 (r .blocks),
+        none-outside n (λ i. x i .re) (λ i g. within-more (h i g .re) _ (lit≤ tt)),
+        none-outside n (λ i. x i .im) (λ i g. within-more (h i g .im) _ (lit≤ tt)),
+        le-ltb m (n / Q) a,
+        le-ltb m′ (n / Q) b,
+      )
       (ap gives (in-buffers-cong (n / Q) _ _ (λ j g. field-cong p Q k n _ x (value-in-buffers n x) j g)))
 
 -- ---- a field of a slot whose chips were drawn
@@ -90,9 +102,10 @@ module _ (slot : Slot) (v : Valid (slot .settings)) (o : InOrder slot) where
       → (part x n (slot .chips .re) ≡ in-buffers n (λ i. chip s (x + i)) .re) × (part x n (slot .chips .im) ≡ in-buffers n (λ i. chip s (x + i)) .im)
   drawn-part x n d =
       let e = o .chips in
-      let l : length (slot .chips .re) ≡ o .count = ap (λ (w : Values). length (w .re)) e ∙ length-listed _ (o .count) in
-      (ap (λ (w : Values). part x n (w .re)) e ∙ part-listed (pos 0) (λ i. chip s i .re) x n (o .count) (omega (arith, l)),
-      ap (λ (w : Values). part x n (w .im)) e ∙ part-listed (pos 0) (λ i. chip s i .im) x n (o .count) (omega (arith, l)))
+      let l : length (slot .chips .re) ≡ o .count = ap (λ (w : Values). length (w .re)) e ∙ length-listed _ (o .count) in (
+        ap (λ (w : Values). part x n (w .re)) e ∙ part-listed (pos 0) (λ i. chip s i .re) x n (o .count) (omega (arith, l)),
+        ap (λ (w : Values). part x n (w .im)) e ∙ part-listed (pos 0) (λ i. chip s i .im) x n (o .count) (omega (arith, l)),
+      )
 
   pub drawn-chip : (x : ℕ) → x < length (slot .chips .re) → value (slot .chips .re) (slot .chips .im) x ≡ chip s x
   drawn-chip x l =

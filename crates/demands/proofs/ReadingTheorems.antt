@@ -81,9 +81,10 @@ module _ (calls : List (Call (List ℤ))) (slot : Slot) (i : List·Memᴰ slot (
 
   -- read accepts every field the bench can send: no component is outside -100000 to 100000
   pub never-17 : (outside (slot .chips .re) ≡ false) × (outside (slot .chips .im) ≡ false)
-  never-17 =
-      (ap (λ (w : Values). outside (w .re)) (o .chips) ∙ none-outside (o .count) (λ x. chip s x .re) (λ x l. within-more (chip-within s v x .re) _ (lit≤ tt)),
-      ap (λ (w : Values). outside (w .im)) (o .chips) ∙ none-outside (o .count) (λ x. chip s x .im) (λ x l. within-more (chip-within s v x .im) _ (lit≤ tt)))
+  never-17 = (
+    ap (λ (w : Values). outside (w .re)) (o .chips) ∙ none-outside (o .count) (λ x. chip s x .re) (λ x l. within-more (chip-within s v x .re) _ (lit≤ tt)),
+    ap (λ (w : Values). outside (w .im)) (o .chips) ∙ none-outside (o .count) (λ x. chip s x .im) (λ x l. within-more (chip-within s v x .im) _ (lit≤ tt)),
+  )
 
   module _ (f : Field) (whole : DrawnWhole slot f) (Q k m m′ : ℕ) (w : Suffice s f Q m m′) where
     quiet-field : no-burst s (field-start s f) (field-length s f) ≡ true → is-code Q k ≡ true

@@ -2,32 +2,30 @@
 -- ranges. Each accepted call keeps it. Assumes nothing.
 use mathlib.Core.Path.{_≡_, refl, sym, subst, _∙_}
 use mathlib.Core.Logic.{_⊎_, inl, inr}
-use mathlib.Core.Bool.{Bool, true, false, not, _&&_, _||_, cond, and-comm, or-comm, false≢true}
+use mathlib.Core.Bool.{Bool, true, false, not, _&&_, cond, and-comm, or-comm, true≢false, false≢true}
 use mathlib.Core.List.{List, [], _∷_}
 use mathlib.Core.Option.{Option, none, some, Option·none-ne-some, Option·some-injective}
-use Prim.Native.Nat.{ℕ, suc, _+_, _-_, _≤_, _<_, min}
-use native.Mathlib.Decide.{decLt}
+use Prim.Native.Nat.{ℕ, zero, suc, _+_, _-_, _≤_, _<_, min}
 use native.Mathlib.Omega.{arith}
 use borrow.Author.Tests.{leb-false, eqb-true, eqb-false, not-false}
-use lib.Dec.{T, eqb, eqb→eq, leb, leb→le, ltb, ltb→lt}
-use lib.ListN.{length, getD, replicate, length-replicate, getD-replicate, List·getD-eq-default}
+use lib.Dec.{T, eqb, eqb→eq, leb, leb→le}
+use lib.ListN.{length, getD, replicate, length-replicate}
 use mir.Facts.{and-yes}
 use Rattle.codes.specs.Refusals.{Answer, refused, gives, Refusal, _if_, _otherwise_}
-use Rattle.codes.specs.Range.{any}
-use Rattle.codes.specs.Tree.{among, is-spreading-factor, is-code, at-or-above, related}
+use Rattle.codes.specs.Tree.{among, is-code, at-or-above, related}
 use Rattle.codes.specs.Allocation.{one-or-two, is-frame-and-half}
 use Rattle.codes.proofs.Refused.{Passed}
-use Rattle.codes.proofs.Tests.{T-true, neither, none-at}
-use Rattle.codes.proofs.Factors.{of-factors}
+use Rattle.codes.proofs.Tests.{neither}
 use Rattle.slot.specs.Setup.{Channel, SyncSetup, Setup, is-some, is-open}
 use Rattle.slot.specs.Slot.{slot-length, bit-count}
 use Rattle.bench.specs.declared.Channel.{Channel as Record}
-use Rattle.bench.specs.BenchCalls.{bad-gain, some-code, related-to-open, set-cell-refusals, open-refusals, AnswerAt, refused-at, loads, close-refusals, set-gain-refusals, load-bits-refusals, set-sync-refusals}
+use Rattle.bench.specs.BenchCalls.{bad-gain, related-to-open, set-cell-refusals, open-refusals, AnswerAt, refused-at, loads, close-refusals, set-gain-refusals, load-bits-refusals, set-sync-refusals}
 use Rattle.bench.proofs.Accepted.{good-code}
 use Rattle.bench.proofs.Loading.{is-bit}
 use Rattle.demands.specs.Calls.{Call, set-cell, open-code, load-plan, close, set-gain, load-bits, set-sync, clear-sync, start, draw}
 use Rattle.demands.specs.Reference.{Reference, cell-set, fresh-reference, with-channel, opened, closed, changed, gain-set, bits-loaded, with-sync, nothing-open, records-opened, plan-loaded, under-way, by-entry, by-plan, started, drawn, reference-step}
 use Rattle.demands.proofs.Otherwise.{either-way}
+use Rattle.demands.proofs.Entries.{code-of, no-code-passes}
 use Rattle.demands.proofs.TableLaws.{OnlyItself}
 
 -- an open code's gain and bits in burst type t: "gain 1 to 4095", "2(F1+F2)/Q bits", "one byte a bit"
@@ -90,22 +88,26 @@ same-code Q k Q′ k′ e =
     let p = and-yes (eqb Q′ Q) (eqb k′ k) (subst T (sym e) tt) in
     (eqb→eq Q′ Q (p .0), eqb→eq k′ k (p .1))
 
+-- code (Q′, k′) is (Q, k), or was open
+abbrev Was : Setup → ℕ → ℕ → ℕ → ℕ → Type 0
+Was s Q k Q′ k′ = ((Q′ ≡ Q) × (k′ ≡ k)) ⊎ (is-open s Q′ k′ ≡ true)
+
 -- the code is a code, unrelated to the open ones but itself, and what it then holds is in its ranges
 module _ (s : Setup) (v : Valid s) (Q k : ℕ) (listed : is-code Q k ≡ true) (alone : OnlyItself s Q k)
     (o : Option Channel) (held : (c : Channel) → o ≡ some c → Held (s .type) Q c) where
-  was-open : (Q′ k′ : ℕ) → is-open (with-channel s Q k o) Q′ k′ ≡ true → ((Q′ ≡ Q) × (k′ ≡ k)) ⊎ (is-open s Q′ k′ ≡ true)
+  was-open : (Q′ k′ : ℕ) → is-open (with-channel s Q k o) Q′ k′ ≡ true → Was s Q k Q′ k′
   unfolding with-channel
   was-open Q′ k′ h = go (eqb Q′ Q && eqb k′ k) refl h
     where
-      go : (t : Bool) → (eqb Q′ Q && eqb k′ k) ≡ t → is-some (cond t o (s .channel Q′ k′)) ≡ true → ((Q′ ≡ Q) × (k′ ≡ k)) ⊎ (is-open s Q′ k′ ≡ true)
+      go : (t : Bool) → (eqb Q′ Q && eqb k′ k) ≡ t → is-some (cond t o (s .channel Q′ k′)) ≡ true → Was s Q k Q′ k′
       go true e i = inl (same-code Q k Q′ k′ e)
       go false e i = inr i
 
-  code-then : (Q′ k′ : ℕ) → ((Q′ ≡ Q) × (k′ ≡ k)) ⊎ (is-open s Q′ k′ ≡ true) → is-code Q′ k′ ≡ true
+  code-then : (Q′ k′ : ℕ) → Was s Q k Q′ k′ → is-code Q′ k′ ≡ true
   code-then Q′ k′ (inl e) = rw (e .0, e .1) listed
   code-then Q′ k′ (inr h) = v .code Q′ k′ h
 
-  apart-then : (Q₁ k₁ Q₂ k₂ : ℕ) → ((Q₁ ≡ Q) × (k₁ ≡ k)) ⊎ (is-open s Q₁ k₁ ≡ true) → ((Q₂ ≡ Q) × (k₂ ≡ k)) ⊎ (is-open s Q₂ k₂ ≡ true)
+  apart-then : (Q₁ k₁ Q₂ k₂ : ℕ) → Was s Q k Q₁ k₁ → Was s Q k Q₂ k₂
       → related Q₂ k₂ Q₁ k₁ ≡ true → (Q₂ ≡ Q₁) × (k₂ ≡ k₁)
   apart-then Q₁ k₁ Q₂ k₂ (inl e) (inl f) r = (f .0 ∙ sym (e .0), f .1 ∙ sym (e .1))
   apart-then Q₁ k₁ Q₂ k₂ (inl e) (inr h) r = let f = alone Q₂ k₂ h (rw (e .0, e .1) at r) in (f .0 ∙ sym (e .0), f .1 ∙ sym (e .1))
@@ -141,24 +143,11 @@ gain-range g e =
     let p = and-yes (leb 1 g) (leb g 4095) (holds (leb 1 g && leb g 4095) e) in
     (leb→le 1 g (p .0), leb→le g 4095 (p .1))
 
--- a test that passes at no code
-no-code-passes : (f : ℕ → ℕ → Bool) → some-code f ≡ false → (Q k : ℕ) → is-code Q k ≡ true → f Q k ≡ false
-no-code-passes f e Q k c =
-    let p₁₆ = neither (any 1 (f 1) || any 2 (f 2) || any 4 (f 4) || any 8 (f 8)) (any 16 (f 16)) e in
-    let p₈ = neither (any 1 (f 1) || any 2 (f 2) || any 4 (f 4)) (any 8 (f 8)) (p₁₆ .0) in
-    let p₄ = neither (any 1 (f 1) || any 2 (f 2)) (any 4 (f 4)) (p₈ .0) in
-    let p₂ = neither (any 1 (f 1)) (any 2 (f 2)) (p₄ .0) in
-    let q = and-yes (is-spreading-factor Q) (ltb k Q) (subst T (sym c) tt) in
-    of-factors (λ (Q : ℕ). k < Q → f Q k ≡ false)
-    (none-at 1 (f 1) (p₂ .0) k) (none-at 2 (f 2) (p₂ .1) k) (none-at 4 (f 4) (p₄ .1) k) (none-at 8 (f 8) (p₈ .1) k) (none-at 16 (f 16) (p₁₆ .1) k)
-    Q (T-true (is-spreading-factor Q) (q .0)) (ltb→lt k Q (q .1))
-
+-- bits all 0
 zeros : (n i : ℕ) → getD (replicate {A = ℕ} n 0) i 0 ≤ 1
-zeros n i = go (decLt i n)
-  where
-    go : Dec (i < n) → getD (replicate {A = ℕ} n 0) i 0 ≤ 1
-    go (yes l) = rw (getD-replicate {A = ℕ} n i 0 0 l) (omega arith)
-    go (no l) = rw (List·getD-eq-default {A = ℕ} (replicate n 0) 0 {n = i} (rw (length-replicate {A = ℕ} n 0) (omega arith))) (omega arith)
+zeros zero i = omega arith
+zeros (suc n) zero = omega arith
+zeros (suc n) (suc i) = zeros n i
 
 -- ---- the entries
 module _ (s : Setup) (v : Valid s) where
@@ -169,8 +158,7 @@ module _ (s : Setup) (v : Valid s) where
   -- a code unrelated to the open ones may be opened
   unrelated : (Q k : ℕ) → related-to-open s Q k ≡ false → OnlyItself s Q k
   unrelated Q k e Q′ k′ o r =
-      let z : true ≡ false = sym (rw (o, r)) ∙ no-code-passes (λ Q′ k′. is-open s Q′ k′ && related Q′ k′ Q k) e Q′ k′ (v .code Q′ k′ o) in
-      absurd (false≢true (sym z))
+      absurd (true≢false (rw (o, r) at (no-code-passes (λ Q′ k′. is-open s Q′ k′ && related Q′ k′ Q k) e Q′ k′ (code-of Q′ k′ (v .code Q′ k′ o)))))
 
   pub opened-valid : (Q k g : ℕ) → Passed (open-refusals s Q k g) → Valid (opened s Q k g)
   opened-valid Q k g h =
