@@ -12,6 +12,7 @@ pub mod Otherwise
 pub mod Valid
 pub mod Answers
 pub mod History
+pub mod Plans
 pub mod FieldChips
 pub mod FieldReadings
 pub mod ReadingTheorems

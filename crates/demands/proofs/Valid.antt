@@ -79,7 +79,7 @@ pub nothing-open-valid : (s : Setup) → Valid s → Valid (nothing-open s)
 nothing-open-valid s v = none-open-valid (s .cell) (s .type) (s .sync) (v .cell) (v .type) (v .sync)
 
 -- ---- what one code holds is changed
-related-sym : (Q k Q′ k′ : ℕ) → related Q k Q′ k′ ≡ related Q′ k′ Q k
+pub related-sym : (Q k Q′ k′ : ℕ) → related Q k Q′ k′ ≡ related Q′ k′ Q k
 unfolding related
 related-sym Q k Q′ k′ = rw (and-comm (is-code Q k), or-comm (at-or-above Q k Q′ k′))
 
