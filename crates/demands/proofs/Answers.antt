@@ -2,9 +2,9 @@
 use lib.IntN.{ℤ}
 use mathlib.Core.Path.{_≡_, refl, sym, ap, ap₂, subst, _∙_}
 use mathlib.Core.Logic.{_≢_}
-use mathlib.Core.Bool.{Bool, true, false, not, cond}
+use mathlib.Core.Bool.{Bool, true, false, not, cond, false≢true}
 use mathlib.Core.List.{List, [], _∷_, map}
-use mathlib.Core.Option.{Option, none, some}
+use mathlib.Core.Option.{Option, none, some, Option·some-injective, Option·none-ne-some}
 use Prim.Native.Nat.{ℕ, suc, _+_, _-_, _≤_, min}
 use native.Mathlib.Omega.{arith}
 use borrow.Author.Tests.{leb-true, leb-false, eqb-true, eq-eqb, ne-eqb, not-false}
@@ -31,7 +31,7 @@ use Rattle.demands.specs.Reference.{Reference, fresh-reference, opened, 
 use Rattle.demands.specs.BenchSteps.{bench-step, called, planned, drawn as bench-drawn}
 use Rattle.demands.proofs.TableLaws.{view-cell-set, view-nothing-open, view-sync-set, view-sync-cleared, view-opened, view-closed, view-gain-set, view-bits-loaded}
 use Rattle.demands.proofs.Otherwise.{alike}
-use Rattle.demands.proofs.Valid.{Valid, gain-range, only-itself, opened-valid, nothing-open-valid, ValidReference, fresh-reference-valid, reference-step-valid}
+use Rattle.demands.proofs.Valid.{Valid, gain-range, only-itself, cell-set-valid, opened-valid, closed-valid, gain-set-valid, bits-loaded-valid, sync-set-valid, sync-cleared-valid, nothing-open-valid, ValidReference, fresh-reference-valid}
 
 -- the reference model that a bench stands for
 abbrev pub reference-of : Bench → Reference
@@ -56,15 +56,19 @@ record ValidTables (s : Settings) : Type 0 where
   pub gains : length (s .gains) ≡ 31
   pub valid : Valid (view s)
 
--- a step of the reference model is the bench's
+-- a step of the reference model is the bench's, and leaves a valid bench
 record Steps (x : Step Reference) (y : Step Bench) : Type 0 where
   pub same : x ≡ seen y
-  pub sized : Sized (y .next)
+  pub valid : ValidBench (y .next)
 
 -- new tables are what the entry makes of the settings
 record Change (s : Settings) (t : Setup) : Type 0 where
   pub view : view s ≡ t
   pub gains : length (s .gains) ≡ 31
+  pub valid : Valid t
+
+new-tables : {s : Settings} {t : Setup} → Change s t → ValidTables s
+new-tables c = record { gains = c .gains; valid = subst Valid (sym (c .view)) (c .valid) }
 
 -- ---- the entries, each where its refusals passed
 not-0 : (g : ℕ) → bad-gain g ≡ false → g ≢ 0
@@ -77,15 +81,15 @@ module _ (s : Settings) (h : ValidTables s) where
   opening : (Q k g : ℕ) → Passed (open-refusals (view s) Q k g) → Change (Tables.with-bits (Tables.with-gain s Q k g) Q k []) (opened (view s) Q k g)
   opening Q k g p =
       let c = good-code Q k (p .0) (p .1 .0) .listed in
-      record { view = view-opened s (h .gains) Q k c g (not-0 g (p .1 .1 .0)) (p .1 .1 .1 .0); gains = new-gain Q k g }
+      record { view = view-opened s (h .gains) Q k c g (not-0 g (p .1 .1 .0)) (p .1 .1 .1 .0); gains = new-gain Q k g; valid = opened-valid (view s) (h .valid) Q k g p }
 
   closing : (Q k : ℕ) → Passed (close-refusals (view s) Q k) → Change (Tables.with-gain s Q k 0) (closed (view s) Q k)
-  closing Q k p = record { view = view-closed s (h .gains) Q k (good-code Q k (p .0) (p .1 .0) .listed); gains = new-gain Q k 0 }
+  closing Q k p = record { view = view-closed s (h .gains) Q k (good-code Q k (p .0) (p .1 .0) .listed); gains = new-gain Q k 0; valid = closed-valid (view s) (h .valid) Q k p }
 
   setting-gain : (Q k g : ℕ) → Passed (set-gain-refusals (view s) Q k g) → Change (Tables.with-gain s Q k g) (gain-set (view s) Q k g)
   setting-gain Q k g p =
       let c = good-code Q k (p .0) (p .1 .0) .listed in
-      record { view = view-gain-set s (h .gains) Q k c g (not-0 g (p .1 .1 .0)) (not-false _ (p .1 .1 .1 .0)); gains = new-gain Q k g }
+      record { view = view-gain-set s (h .gains) Q k c g (not-0 g (p .1 .1 .0)) (not-false _ (p .1 .1 .1 .0)); gains = new-gain Q k g; valid = gain-set-valid (view s) (h .valid) Q k g p }
 
   loading-bits : (Q k : ℕ) (bits : List ℕ) → Passed (load-bits-refusals (view s) Q k bits) → Change (Tables.with-bits s Q k bits) (bits-loaded (view s) Q k bits)
   unfolding view
@@ -96,13 +100,19 @@ module _ (s : Settings) (h : ValidTables s) where
       record {
         view = view-bits-loaded s (h .gains) Q k c bits o (only-itself (view s) (h .valid) Q k o) count (is-bit bits (p .1 .1 .1 .1 .0));
         gains = h .gains;
+        valid = bits-loaded-valid (view s) (h .valid) Q k bits p;
       }
 
-  setting-sync : (case frame half gP gS : ℕ)
+  setting-sync : (case frame half gP gS : ℕ) → Passed (set-sync-refusals (view s) case frame half gP gS)
       → Change (Tables.with-sync s (record { on = 1; case = case; frame = frame; half = half; gp = gP; gs = gS }))
       (with-sync (view s) (some (record { case = case; frame = frame; half = half; gP = gP; gS = gS })))
   unfolding view
-  setting-sync case frame half gP gS = record { view = view-sync-set s (h .valid .cell) case frame half gP gS; gains = h .gains }
+  setting-sync case frame half gP gS p =
+      record {
+        view = view-sync-set s (h .valid .cell) case frame half gP gS;
+        gains = h .gains;
+        valid = sync-set-valid (view s) (h .valid) case frame half gP gS p;
+      }
 
 -- ---- the air
 -- a slot is under way in both, or in none
@@ -135,37 +145,55 @@ module _ (b : Bench) (v : ValidBench b) where
   own : ValidTables (b .settings)
   own = record { gains = v .sized .settings; valid = v .model .settings }
 
+  -- new settings leave the air as it was
+  with-tables : {s : Settings} → ValidTables s → ValidBench (Tables.with-settings b s)
+  with-tables h =
+      record {
+        sized = record { settings = h .gains; sending = v .sized .sending };
+        model = record { settings = h .valid; sending = v .model .sending; at-most = v .model .at-most; below = v .model .below };
+      }
+
   -- "Each accepted call but start and draw changes the settings by its entry."
   entry : (rs : List Refusal) {s : Settings} {t : Setup} → (Passed rs → Change s t)
       → Steps (by-entry (reference-of b) (rs otherwise t)) (called b (rs otherwise Tables.with-settings b s))
   entry rs {s} {t} h =
-      alike (λ (x : Answer Setup) (y : Answer Bench). Steps (by-entry (reference-of b) x) (called b y)) (λ n. record { same = refl; sized = v .sized })
+      alike (λ (x : Answer Setup) (y : Answer Bench). Steps (by-entry (reference-of b) x) (called b y)) (λ n. record { same = refl; valid = v })
       rs t (Tables.with-settings b s)
-      (λ p. record { same = rw (← (h p .view)); sized = record { settings = h p .gains; sending = v .sized .sending } })
+      (λ p. record { same = rw (← (h p .view)); valid = with-tables (new-tables (h p)) })
 
   -- Load plan: record after record, each on what the earlier ones left
   plan-opened : (place : ℕ) (s : Settings) (cs : List Record) → ValidTables s
       → Steps (by-plan (reference-of b) (records-opened place (view s) cs)) (planned b (opened-in-turn place (Tables.with-settings b s) cs))
   unfolding records-opened opened-in-turn
-  plan-opened place s [] h = record { same = refl; sized = record { settings = h .gains; sending = v .sized .sending } }
+  plan-opened place s [] h = record { same = refl; valid = with-tables h }
   plan-opened place s (c ∷ cs) h =
       alike (λ (x : Answer Setup) (y : Answer Bench).
       Steps (by-plan (reference-of b) (elim x [ refused n ↦ refused-at n place | gives next ↦ records-opened (suc place) next cs ]))
       (planned b (elim y [ refused n ↦ refused-at n place | gives next ↦ opened-in-turn (suc place) next cs ])))
-      (λ n. record { same = refl; sized = v .sized })
+      (λ n. record { same = refl; valid = v })
       (open-refusals (view s) (c .q) (c .k) (c .gain)) (opened (view s) (c .q) (c .k) (c .gain)) _
-      (λ p. let o = opening s h (c .q) (c .k) (c .gain) p in
-      let w = opened-valid (view s) (h .valid) (c .q) (c .k) (c .gain) p in
-      rw (← (o .view)) (plan-opened (suc place) _ cs (record { gains = o .gains; valid = subst Valid (sym (o .view)) w })))
+      (λ p. let o = opening s h (c .q) (c .k) (c .gain) p in rw (← (o .view)) (plan-opened (suc place) _ cs (new-tables o)))
 
   -- "An accepted start makes the copy from the settings and sets the tally to 0."
+  started-valid : ValidBench (record { settings = b .settings; running = 1; sending = b .settings; position = 0 })
+  started-valid =
+      record {
+        sized = record { settings = v .sized .settings; sending = v .sized .settings };
+        model = record {
+          settings = v .model .settings;
+          sending = λ s e. subst Valid (Option·some-injective _ s e) (v .model .settings);
+          at-most = omega arith;
+          below = λ e. omega arith;
+        };
+      }
+
   start-steps : Steps (reference-step (reference-of b) start) (bench-step b start)
   unfolding reference-step bench-step
   start-steps =
       rw (air (under-way b) (view (b .sending)))
-      (alike (λ (x : Answer (Unit {0})) (y : Answer Bench). Steps (started (reference-of b) x) (called b y)) (λ n. record { same = refl; sized = v .sized })
+      (alike (λ (x : Answer (Unit {0})) (y : Answer Bench). Steps (started (reference-of b) x) (called b y)) (λ n. record { same = refl; valid = v })
       (10 if under-way b ∷ []) tt (record { settings = b .settings; running = 1; sending = b .settings; position = 0 })
-      (λ p. record { same = refl; sized = record { settings = v .sized .settings; sending = v .sized .settings } }))
+      (λ p. record { same = refl; valid = started-valid }))
 
   -- "An accepted draw of length n gets as its count m, the smaller of n and 2,560 less the tally, and the chips from tally to tally+m-1 of the copy's
   -- slot. The tally grows by m, and at 2,560 the copy goes."
@@ -181,19 +209,32 @@ module _ (b : Bench) (v : ValidBench b) where
       copy : reference-of b .sending ≡ some (view (b .sending))
       copy = ap (λ (t : Bool). cond t (some (view (b .sending))) none) e
 
+  -- chips are left while the bench runs
+  moved-valid : (m : ℕ) → b .position + m ≤ slot-length → ValidBench (moved-on b m)
+  moved-valid m l =
+      record {
+        sized = record { settings = v .sized .settings; sending = v .sized .sending };
+        model = go (leb slot-length (b .position + m)) refl;
+      }
+    where
+      go : (t : Bool) → leb slot-length (b .position + m) ≡ t
+          → ValidReference (record { settings = view (b .settings); sending = cond (not (eqb (cond t 0 (b .running)) 0)) (some (view (b .sending))) none; sent = b .position + m })
+      go true e = record { settings = v .model .settings; sending = λ s f. absurd (Option·none-ne-some s f); at-most = l; below = λ f. absurd (false≢true f) }
+      go false e = record { settings = v .model .settings; sending = v .model .sending; at-most = l; below = λ f. leb-false slot-length (b .position + m) e }
+
   draw-steps : (re im : List ℤ) → Steps (reference-step (reference-of b) (draw (length re) (length im))) (bench-step b (draw re im))
   unfolding reference-step bench-step
   draw-steps re im =
       let m : ℕ = min (length re) (slot-length - b .position) in
       let l : b .position + m ≤ slot-length = omega (arith, v .model .at-most) in
       rw (air (under-way b) (view (b .sending)))
-      (alike (λ (x : Answer (Unit {0})) (y : Answer Draw). Steps (drawn (reference-of b) m x) (bench-drawn b re im y)) (λ n. record { same = refl; sized = v .sized })
+      (alike (λ (x : Answer (Unit {0})) (y : Answer Draw). Steps (drawn (reference-of b) m x) (bench-drawn b re im y)) (λ n. record { same = refl; valid = v })
       (draw-refusals b (length re) (length im)) tt (draw-of b m)
-      (λ p. record { same = chips-drawn re im m l (not-false _ (p .0)); sized = record { settings = v .sized .settings; sending = v .sized .sending } }))
+      (λ p. record { same = chips-drawn re im m l (not-false _ (p .0)); valid = moved-valid m l }))
 
   step : (c : Call (List ℤ)) → Steps (reference-step (reference-of b) (fed c)) (bench-step b c)
   unfolding reference-step bench-step fed
-  step (set-cell p t) = entry (set-cell-refusals p t) (λ h. record { view = view-cell-set (record { 0 = p }) t (b .settings .pairs); gains = refl })
+  step (set-cell p t) = entry (set-cell-refusals p t) (λ h. record { view = view-cell-set (record { 0 = p }) t (b .settings .pairs); gains = refl; valid = cell-set-valid p t h })
   step (open-code Q k g) = entry (open-refusals (view (b .settings)) Q k g) (opening (b .settings) own Q k g)
   step (load-plan plan) =
       let e = view-nothing-open (b .settings) in
@@ -203,8 +244,8 @@ module _ (b : Bench) (v : ValidBench b) where
   step (set-gain Q k g) = entry (set-gain-refusals (view (b .settings)) Q k g) (setting-gain (b .settings) own Q k g)
   step (load-bits Q k bits) = entry (load-bits-refusals (view (b .settings)) Q k bits) (loading-bits (b .settings) own Q k bits)
   step (set-sync case frame half gP gS) =
-      entry (set-sync-refusals (view (b .settings)) case frame half gP gS) (λ p. setting-sync (b .settings) own case frame half gP gS)
-  step clear-sync = entry [] (λ p. record { view = view-sync-cleared (b .settings); gains = own .gains })
+      entry (set-sync-refusals (view (b .settings)) case frame half gP gS) (setting-sync (b .settings) own case frame half gP gS)
+  step clear-sync = entry [] (λ p. record { view = view-sync-cleared (b .settings); gains = own .gains; valid = sync-cleared-valid (view (b .settings)) (own .valid) })
   step start = start-steps
   step (draw re im) = draw-steps re im
 
@@ -212,11 +253,7 @@ module _ (b : Bench) (v : ValidBench b) where
   agrees c = step c .same
 
   pub bench-step-valid : (c : Call (List ℤ)) → ValidBench (bench-step b c .next)
-  bench-step-valid c =
-      record {
-        sized = step c .sized;
-        model = subst (λ (x : Step Reference). ValidReference (x .next)) (agrees c) (reference-step-valid (reference-of b) (fed c) (v .model));
-      }
+  bench-step-valid c = step c .valid
 
 -- ---- a list of calls
 told-from : (b : Bench) → ValidBench b → (calls : List (Call (List ℤ))) → told-by bench-step b calls ≡ told-by reference-step (reference-of b) (map fed calls)
@@ -237,10 +274,10 @@ valid-from b v [] = v
 valid-from b v (c ∷ cs) = valid-from (bench-step b c .next) (bench-step-valid b v c) cs
 
 -- "at first the fresh settings, no copy, tally 0"
-fresh-same : reference-of fresh ≡ fresh-reference
+pub fresh-same : reference-of fresh ≡ fresh-reference
 fresh-same = ap (λ (s : Setup). record { settings = s; sending = none; sent = 0 }) (view-cell-set (record { 0 = 0 }) 1 _)
 
-fresh-bench-valid : ValidBench fresh
+pub fresh-bench-valid : ValidBench fresh
 fresh-bench-valid = record { sized = record { settings = refl; sending = refl }; model = subst ValidReference (sym fresh-same) fresh-reference-valid }
 
 -- "At every call of the list the bench gives the ledger's number, place and count, or none where the ledger has none, and an accepted draw leaves

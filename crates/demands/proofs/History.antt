@@ -17,13 +17,14 @@ use Rattle.complex.proofs.Lists.{length-listed}
 use Rattle.codes.specs.Refusals.{Answer, refused, gives, _if_, _otherwise_}
 use Rattle.slot.specs.Setup.{Setup}
 use Rattle.slot.specs.Slot.{slot-length, chip}
+use Rattle.bench.specs.declared.Bench.{Bench}
 use Rattle.bench.specs.BenchCalls.{fresh, set-cell-refusals, open-refusals, AnswerAt, refused-at, loads, close-refusals, set-gain-refusals, load-bits-refusals, set-sync-refusals}
 use Rattle.demands.specs.Calls.{Call, set-cell, open-code, load-plan, close, set-gain, load-bits, set-sync, clear-sync, start, draw, refused-by, Step, told-by, left-after}
 use Rattle.demands.specs.Reference.{Reference, fresh-reference, cell-set, opened, closed, gain-set, bits-loaded, with-sync, plan-loaded, with-settings, by-entry, by-plan, drawn, reference-step, fed}
 use Rattle.demands.specs.BenchSteps.{bench-step}
 use Rattle.demands.specs.Slots.{Slot, extended, is-start, noted, slots-from, slots, InOrder, NothingLeft}
-use Rattle.demands.proofs.Valid.{Valid, ValidReference, fresh-reference-valid, reference-step-valid}
-use Rattle.demands.proofs.Answers.{seen, agrees, answers, reached, bench-valid, reference-valid}
+use Rattle.demands.proofs.Valid.{Valid, ValidReference}
+use Rattle.demands.proofs.Answers.{reference-of, seen, ValidBench, agrees, bench-step-valid, fresh-same, fresh-bench-valid, answers, reached, bench-valid, reference-valid}
 
 -- ---- a list in two parts
 listed-more : {A : Type 0} (f : ℕ → A) (n m : ℕ) → listed n f ++ listed m (λ i. f (n + i)) ≡ listed (n + m) f
@@ -138,16 +139,27 @@ kept r v past h start = start-kept (r .settings) (r .sending) (r .sent) v past h
 kept r v past h (draw re im) = draw-kept (r .settings) (r .sending) (r .sent) past h (length re) (length im)
 
 -- ---- a list of calls
-noted-from : (r : Reference) → ValidReference r → (past : List Slot) → Noted r past → (calls : List (Call (List ℤ)))
-    → Noted (left-after reference-step r (map fed calls)) (slots-from r past calls (told-by reference-step r (map fed calls)))
+-- what is noted of a list, by a step and the rest of it
+abbrev After : List Slot → Call (List ℤ) → List (Call (List ℤ)) → Step Reference → Type 0
+After past c cs y =
+    Noted (left-after reference-step (y .next) (map fed cs))
+    (slots-from (y .next) (noted (y .next .sending) (is-start c) (y .told) past) cs (told-by reference-step (y .next) (map fed cs)))
+
+noted-from : (b : Bench) → ValidBench b → (past : List Slot) → Noted (reference-of b) past → (calls : List (Call (List ℤ)))
+    → Noted (left-after reference-step (reference-of b) (map fed calls))
+    (slots-from (reference-of b) past calls (told-by reference-step (reference-of b) (map fed calls)))
 unfolding left-after told-by slots-from
-noted-from r v past h [] = h
-noted-from r v past h (c ∷ cs) =
-    let y = reference-step r (fed c) in
-    noted-from (y .next) (reference-step-valid r (fed c) v) (noted (y .next .sending) (is-start c) (y .told) past) (kept r v past h c) cs
+noted-from b v past h [] = h
+noted-from b v past h (c ∷ cs) =
+    let same = agrees b v c in
+    subst (After past c cs) (sym same)
+    (noted-from (bench-step b c .next) (bench-step-valid b v c) _ (subst (Kept past (is-start c)) same (kept (reference-of b) (v .model) past h c)) cs)
 
 slots-noted : (calls : List (Call (List ℤ))) → Noted (left-after reference-step fresh-reference (map fed calls)) (slots calls)
-slots-noted calls = rw (answers calls) (noted-from fresh-reference fresh-reference-valid [] refl calls)
+slots-noted calls =
+    rw (answers calls)
+    (subst (λ (r : Reference). Noted (left-after reference-step r (map fed calls)) (slots-from r [] calls (told-by reference-step r (map fed calls)))) fresh-same
+    (noted-from fresh fresh-bench-valid [] refl calls))
 
 slots-good : (calls : List (Call (List ℤ))) → All Good (slots calls)
 slots-good calls = all-good (left-after reference-step fresh-reference (map fed calls)) (reference-valid calls) (slots calls) (slots-noted calls)

@@ -7,7 +7,7 @@ use Prim.Native.Nat.{ℕ, _+_, _*_, _≤_, _<_}
 use native.Mathlib.Omega.{arith}
 use borrow.Author.Tests.{not-true}
 use lib.Dec.{T}
-use lib.IntN.{ℤ, pos}
+use lib.IntN.{ℤ}
 use lib.ListN.{length}
 use Rattle.complex.specs.declared.Complex.{Complex}
 use Rattle.complex.specs.Arithmetic.{squared-size, _⊕_}
@@ -17,10 +17,9 @@ use Rattle.complex.proofs.Sums.{Σℤ-cong}
 use Rattle.codes.proofs.Tests.{each-at, T-true}
 use Rattle.slot.specs.Setup.{Setup}
 use Rattle.slot.specs.Slot.{data-chip, chip}
-use Rattle.orthogonality.specs.Gains.{squared-gains}
 use Rattle.demands.specs.Calls.{Call}
 use Rattle.demands.specs.Slots.{Slot, slots}
-use Rattle.demands.specs.Fields.{Field, field-length, field-start, field-before, Drawn, burst-at, no-burst, power-of-16}
+use Rattle.demands.specs.Fields.{Field, field-length, field-start, field-before, Drawn, burst-at, no-burst, power-of-16, power-due}
 use Rattle.demands.proofs.Valid.{Valid}
 use Rattle.demands.proofs.History.{in-order, slot-valid}
 use Rattle.demands.proofs.FieldChips.{chip-in-field, unrelated}
@@ -30,7 +29,7 @@ use Rattle.orthogonality.proofs.DataPower.{data-power}
 -- The 16 chips from chip 16m of a field on, all drawn, no burst chip among them; the field need not be drawn whole.
 pub power : (calls : List (Call (List ℤ))) (slot : Slot) → List·Memᴰ slot (slots calls) → (f : Field) (m : ℕ)
     → (let s = slot .settings in 16 * m + 16 ≤ field-length s f → Drawn slot (field-start s f + 16 * m) 16
-    → no-burst s (field-start s f + 16 * m) 16 ≡ true → power-of-16 slot (field-start s f + 16 * m) ≡ pos (16 * squared-gains s))
+    → no-burst s (field-start s f + 16 * m) 16 ≡ true → power-of-16 slot (field-start s f + 16 * m) ≡ power-due s)
 power calls slot i f m inside drawn quiet =
     Σℤ-cong 16 _ _ (λ n l. ap squared-size (chip-is n l))
     ∙ data-power s (v .cell) (unrelated s v) (λ Q k c t e. v .channel Q k c e .bit) (field-before s f) m

@@ -216,19 +216,6 @@ module _ (s : Setup) (v : Valid s) where
   pub sync-cleared-valid : Valid (with-sync s none)
   sync-cleared-valid = with-sync-valid none (no-sync-held (s .type))
 
--- what load plan loads, where it does
-abbrev pub Loads : (Setup → Type 0) → AnswerAt Setup → Type 0
-Loads P (refused-at n place) = Unit {0}
-Loads P (loads s) = P s
-
-pub records-opened-valid : (place : ℕ) (s : Setup) (cs : List Record) → Valid s → Loads Valid (records-opened place s cs)
-unfolding records-opened
-records-opened-valid place s [] v = v
-records-opened-valid place s (c ∷ cs) v =
-    either-way (λ (x : Answer Setup). Loads Valid (elim x [ refused n ↦ refused-at n place | gives next ↦ records-opened (suc place) next cs ]))
-    (λ n. tt) (open-refusals s (c .q) (c .k) (c .gain)) (opened s (c .q) (c .k) (c .gain))
-    (λ p. records-opened-valid (suc place) (opened s (c .q) (c .k) (c .gain)) cs (opened-valid s v (c .q) (c .k) (c .gain) p))
-
 -- ---- the reference model
 pub record ValidReference (r : Reference) : Type 0 where
   pub settings : Valid (r .settings)
@@ -239,48 +226,3 @@ pub record ValidReference (r : Reference) : Type 0 where
 pub fresh-reference-valid : ValidReference fresh-reference
 fresh-reference-valid =
     record { settings = fresh-valid; sending = λ s e. absurd (Option·none-ne-some s e); at-most = omega arith; below = λ e. omega arith }
-
-module _ (r : Reference) (v : ValidReference r) where
-  entry-valid : (rs : List Refusal) {s : Setup} → (Passed rs → Valid s) → ValidReference (by-entry r (rs otherwise s) .next)
-  entry-valid rs {s} h =
-      either-way (λ (x : Answer Setup). ValidReference (by-entry r x .next)) (λ n. v) rs s
-      (λ p. record { settings = h p; sending = v .sending; at-most = v .at-most; below = v .below })
-
-  plan-valid : (x : AnswerAt Setup) → Loads Valid x → ValidReference (by-plan r x .next)
-  plan-valid (refused-at n place) h = v
-  plan-valid (loads s) h = record { settings = h; sending = v .sending; at-most = v .at-most; below = v .below }
-
-  start-valid : (rs : List Refusal) → ValidReference (started r (rs otherwise tt) .next)
-  start-valid rs =
-      either-way (λ (x : Answer (Unit {0})). ValidReference (started r x .next)) (λ n. v) rs tt
-      (λ p. record { settings = v .settings; sending = λ s e. subst Valid (Option·some-injective _ s e) (v .settings); at-most = omega arith; below = λ e. omega arith })
-
-  -- at 2,560 the copy goes
-  draw-valid : (n : ℕ) (rs : List Refusal) → ValidReference (drawn r (min n (slot-length - r .sent)) (rs otherwise tt) .next)
-  draw-valid n rs =
-      let m : ℕ = min n (slot-length - r .sent) in
-      let l : r .sent + m ≤ slot-length = omega (arith, v .at-most) in
-      either-way (λ (x : Answer (Unit {0})). ValidReference (drawn r m x .next)) (λ n. v) rs tt
-      (λ p. go m l (eqb (r .sent + m) slot-length) refl)
-    where
-      go : (m : ℕ) → r .sent + m ≤ slot-length → (t : Bool) → eqb (r .sent + m) slot-length ≡ t
-          → ValidReference (record { settings = r .settings; sending = cond t none (r .sending); sent = r .sent + m })
-      go m l true e = record { settings = v .settings; sending = λ s e. absurd (Option·none-ne-some s e); at-most = l; below = λ e. absurd (false≢true e) }
-      go m l false e = record { settings = v .settings; sending = v .sending; at-most = l; below = λ o. omega (arith, eqb-false (r .sent + m) slot-length e) }
-
--- "Each accepted call but start and draw changes the settings by its entry"
-pub reference-step-valid : (r : Reference) (c : Call ℕ) → ValidReference r → ValidReference (reference-step r c .next)
-unfolding reference-step
-reference-step-valid r (set-cell p t) v = entry-valid r v (set-cell-refusals p t) (cell-set-valid p t)
-reference-step-valid r (open-code Q k g) v = let s = r .settings in entry-valid r v (open-refusals s Q k g) (opened-valid s (v .settings) Q k g)
-reference-step-valid r (load-plan plan) v =
-    let s = r .settings in plan-valid r v (plan-loaded s plan) (records-opened-valid 0 (nothing-open s) plan (nothing-open-valid s (v .settings)))
-reference-step-valid r (close Q k) v = let s = r .settings in entry-valid r v (close-refusals s Q k) (closed-valid s (v .settings) Q k)
-reference-step-valid r (set-gain Q k g) v = let s = r .settings in entry-valid r v (set-gain-refusals s Q k g) (gain-set-valid s (v .settings) Q k g)
-reference-step-valid r (load-bits Q k bits) v =
-    let s = r .settings in entry-valid r v (load-bits-refusals s Q k bits) (bits-loaded-valid s (v .settings) Q k bits)
-reference-step-valid r (set-sync case frame half gP gS) v =
-    let s = r .settings in entry-valid r v (set-sync-refusals s case frame half gP gS) (sync-set-valid s (v .settings) case frame half gP gS)
-reference-step-valid r clear-sync v = entry-valid r v [] (λ p. sync-cleared-valid (r .settings) (v .settings))
-reference-step-valid r start v = start-valid r v (10 if under-way r ∷ [])
-reference-step-valid r (draw n n′) v = draw-valid r v n (11 if not (under-way r) ∷ 12 if not (eqb n n′) ∷ [])

@@ -20,6 +20,7 @@ use Rattle.slot.specs.Setup.{Channel, Setup, is-some}
 use Rattle.slot.specs.Slot.{burst-type, sync-chip, chip}
 use Rattle.bench.specs.BenchCalls.{related-to-open}
 use Rattle.analyser.specs.Reading.{read-call}
+use Rattle.orthogonality.specs.Gains.{squared-gains}
 use Rattle.demands.specs.Reference.{with-sync}
 use Rattle.demands.specs.Slots.{Slot}
 
@@ -132,6 +133,10 @@ pub record BurstAdds (slot : Slot) (f : Field) (Q k m m′ : ℕ) : Type 0 where
 -- "the squared components of each 16 data chips add up to": those from chip x of the slot on, as they were drawn
 abbrev pub power-of-16 : Slot → ℕ → ℤ
 power-of-16 slot x = Σℤ< 16 (λ i. squared-size (value (slot .chips .re) (slot .chips .im) (x + i)))
+
+-- "16 times the sum of the squared gains", which are "those of the codes open at that start"
+abbrev pub power-due : Setup → ℤ
+power-due s = pos (16 * squared-gains s)
 
 -- the bits of a channel that a field sends
 abbrev pub field-bits : Setup → Field → ℕ → Channel → List ℕ
