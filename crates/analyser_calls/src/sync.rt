@@ -58,7 +58,7 @@ fn seed(case: u32, group: u32, frame: u32, half: u32) -> u32 {
 
 fn line(case: u32, group: u32, frame: u32, half: u32, gains: Gains) {
     let mut chips = signals::zeros();
-    let three = codes::burst::allocated(case, CodeGroup(group), frame, half);
+    let three = sync_codes::burst::allocated(case, CodeGroup(group), frame, half);
     signals::add_burst(&mut chips, 0, three, gains.0, gains.1);
     signals::add_noise(&mut chips, 256, gains.2, seed(case, group, frame, half));
     let digest = signals::digest_of(&chips, 256);
@@ -81,9 +81,9 @@ fn line(case: u32, group: u32, frame: u32, half: u32, gains: Gains) {
 // The sum of two bursts, in which the primary code's gain is 3 and the secondary codes' gain is 5.
 fn line_of_two(case: u32, g: u32, frame: u32, half: u32, g2: u32, frame2: u32, half2: u32) {
     let mut chips = signals::zeros();
-    let three = codes::burst::allocated(case, CodeGroup(g), frame, half);
+    let three = sync_codes::burst::allocated(case, CodeGroup(g), frame, half);
     signals::add_burst(&mut chips, 0, three, 3, 5);
-    let other = codes::burst::allocated(case, CodeGroup(g2), frame2, half2);
+    let other = sync_codes::burst::allocated(case, CodeGroup(g2), frame2, half2);
     signals::add_burst(&mut chips, 0, other, 3, 5);
     let digest = signals::digest_of(&chips, 256);
     let row = Row(case, g, frame, half, g2, frame2, half2, digest, 0, 0);

@@ -10,7 +10,7 @@ use Rattle.codes.specs.declared.CellParameter.{CellParameter}
 use Rattle.codes.specs.Range.{any}
 use Rattle.codes.specs.Refusals.{Answer, refused, gives, Refusal, _if_, _otherwise_, after}
 use Rattle.codes.specs.Tree.{among, is-spreading-factor, related}
-use Rattle.codes.specs.Allocation.{one-or-two, is-frame-and-half}
+use Rattle.sync_codes.specs.Allocation.{one-or-two, is-frame-and-half}
 use Rattle.slot.specs.declared.Settings.{Settings}
 use Rattle.slot.specs.Setup.{Setup, is-open}
 use Rattle.slot.specs.Slot.{slot-length, bit-count, chip}

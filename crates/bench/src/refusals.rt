@@ -9,10 +9,10 @@ ghost use Rattle.bench.specs.BenchCalls.{bad-gain, close-refusals, has-b
 ghost use Rattle.bench.specs.Held.{clashes, code-refusals, open-at};
 use crate::tables::node;
 use codes::CellParameter;
-use codes::burst;
 use codes::tree;
 use slot::Settings;
 use slot::parts;
+use sync_codes::burst;
 
 pub fn set_cell(cell: CellParameter, kind: u32) -> u32
     ensures { λ r. ⌜ r ≡ number (set-cell-refusals (cell .0) kind) ⌝ }

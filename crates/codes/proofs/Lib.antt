@@ -2,7 +2,5 @@
 pub mod Tests
 pub mod Rows
 pub mod Leaves
-pub mod Parts
 pub mod Refused
-pub mod Allocations
 pub mod Factors

@@ -18,7 +18,6 @@ use Rattle.codes.specs.Held.{packed, sign-bit}
 use Rattle.codes.specs.AnnexA.{annex-A}
 use Rattle.codes.specs.Scrambling.{row, v, scrambling}
 use Rattle.codes.specs.Tree.{code}
-use Rattle.codes.specs.SyncCodes.{a, a-signs, b, b-signs}
 use Rattle.codes.specs.Range.{each}
 use Rattle.codes.proofs.Tests.{each-at, same, same→eq}
 
@@ -88,23 +87,6 @@ v-within p i = subst (Within 1) (sym (v-at p i)) (go (decLe 128 p))
 pub scrambling-both : (p i : ℕ) → Both 1 (scrambling p (i + 1))
 unfolding scrambling
 scrambling-both p i = both-j^ (real-both (v-within p i)) (i + 1)
-
--- the sequences of the sync codes
-pub a-test : T (reads-back a)
-unfolding reads-back each same sign-bit _at_
-a-test = tt
-
-pub a-signs-test : T (reads-back a-signs)
-unfolding reads-back each same sign-bit _at_
-a-signs-test = tt
-
-pub b-test : T (reads-back b)
-unfolding reads-back each same sign-bit _at_
-b-test = tt
-
-pub b-signs-test : T (reads-back b-signs)
-unfolding reads-back each same sign-bit _at_
-b-signs-test = tt
 
 -- the codes of Q 16
 leaf-test : T (each 16 (λ x. reads-back (code 16 x)))

@@ -12,9 +12,9 @@ use Rattle.complex.specs.Arithmetic.{𝟎, _⊕_}
 use Rattle.complex.specs.Buffers.{Values, in-buffers}
 use Rattle.complex.proofs.Ring.{𝟎-⊕, ⊕-𝟎}
 use Rattle.complex.proofs.Sums.{Σ-𝟎}
-use Rattle.codes.specs.Burst.{burst, burst-start}
 use Rattle.codes.specs.Refusals.{gives}
 use Rattle.codes.specs.Scrambling.{code-group}
+use Rattle.sync_codes.specs.Burst.{burst, burst-start}
 use Rattle.slot.specs.Setup.{SyncSetup, Setup}
 use Rattle.slot.specs.Slot.{over-codes, channel-chip, data-chip, sync-chip, chip, burst-type}
 use Rattle.slot.proofs.BurstPlace.{burst-whole, without-sync}

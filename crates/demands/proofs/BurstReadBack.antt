@@ -16,13 +16,13 @@ use Rattle.complex.specs.Fits.{Both}
 use Rattle.complex.proofs.Lists.{length-listed, value-in-buffers}
 use Rattle.complex.proofs.Order.{times-ltZ}
 use Rattle.complex.proofs.Sizes.{within-more}
-use Rattle.codes.specs.declared.ModulatedCode.{ModulatedCode}
-use Rattle.codes.specs.declared.Allocated.{Allocated}
-use Rattle.codes.specs.Allocation.{one-or-two, is-frame-and-half}
-use Rattle.codes.specs.Burst.{burst}
 use Rattle.codes.specs.Refusals.{gives}
-use Rattle.codes.specs.SyncCodes.{Cp, C}
 use Rattle.codes.proofs.Tests.{T-true}
+use Rattle.sync_codes.specs.declared.ModulatedCode.{ModulatedCode}
+use Rattle.sync_codes.specs.declared.Allocated.{Allocated}
+use Rattle.sync_codes.specs.Allocation.{one-or-two, is-frame-and-half}
+use Rattle.sync_codes.specs.Burst.{burst}
+use Rattle.sync_codes.specs.SyncCodes.{Cp, C}
 use Rattle.sync_analyser.specs.declared.Candidate.{Candidate}
 use Rattle.sync_analyser.specs.SyncReading.{of-group, candidate, candidates, share, total-share, score, winner, read-sync-call}
 use Rattle.analyser.specs.Components.{outside}

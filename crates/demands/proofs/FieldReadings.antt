@@ -22,11 +22,11 @@ use Rattle.complex.proofs.Ring.{⊕-𝟎, 𝟎-⊗}
 use Rattle.complex.proofs.Sizes.{within-more}
 use Rattle.complex.proofs.Sums.{Σ-cong, Σ-𝟎}
 use Rattle.codes.specs.Refusals.{Answer, gives}
-use Rattle.codes.specs.Burst.{burst-start}
 use Rattle.codes.specs.Scrambling.{scrambling, code-group}
 use Rattle.codes.specs.Tree.{is-code, is-spreading-factor, element}
 use Rattle.codes.proofs.Factors.{factor-range}
 use Rattle.codes.proofs.Tests.{T-true}
+use Rattle.sync_codes.specs.Burst.{burst-start}
 use Rattle.analyser.specs.Components.{outside}
 use Rattle.analyser.specs.Reading.{reading, no-field, read-call}
 use Rattle.analyser.proofs.Ranges.{none-outside}

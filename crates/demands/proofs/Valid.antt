@@ -13,9 +13,9 @@ use lib.ListN.{length, getD, replicate, length-replicate}
 use mir.Facts.{and-yes}
 use Rattle.codes.specs.Refusals.{Answer, refused, gives, Refusal, _if_, _otherwise_}
 use Rattle.codes.specs.Tree.{among, is-code, at-or-above, related}
-use Rattle.codes.specs.Allocation.{one-or-two, is-frame-and-half}
 use Rattle.codes.proofs.Refused.{Passed}
 use Rattle.codes.proofs.Tests.{neither}
+use Rattle.sync_codes.specs.Allocation.{one-or-two, is-frame-and-half}
 use Rattle.slot.specs.Setup.{Channel, SyncSetup, Setup, is-some, is-open}
 use Rattle.slot.specs.Slot.{slot-length, bit-count}
 use Rattle.bench.specs.declared.Channel.{Channel as Record}

@@ -8,12 +8,13 @@ use lib.ListN.{getD}
 use Rattle.complex.specs.declared.Complex.{Complex}
 use Rattle.complex.specs.Arithmetic.{_+j_, real, _⊕_, _⊗_, Σℤ<}
 use Rattle.complex.specs.Buffers.{listed}
-use Rattle.codes.specs.declared.ModulatedCode.{ModulatedCode}
-use Rattle.codes.specs.declared.Allocated.{Allocated}
 use Rattle.codes.specs.Signs.{_at_}
-use Rattle.codes.specs.SyncCodes.{a, b}
-use Rattle.codes.specs.Held.{secondary-row, sign-bit}
+use Rattle.codes.specs.Held.{sign-bit}
 use Rattle.codes.specs.Tree.{element, width}
+use Rattle.sync_codes.specs.declared.ModulatedCode.{ModulatedCode}
+use Rattle.sync_codes.specs.declared.Allocated.{Allocated}
+use Rattle.sync_codes.specs.SyncCodes.{a, b}
+use Rattle.sync_codes.specs.Held.{secondary-row}
 use Rattle.modulation.specs.declared.Block.{Block}
 use Rattle.modulation.specs.Nodes.{node}
 

@@ -7,10 +7,10 @@ ghost use Rattle.slot.specs.Slot.{sync-chip};
 ghost use Rattle.slot.specs.Tables.{view-sync};
 use crate::Sync;
 use codes::CellParameter;
-use codes::burst;
 use codes::scrambling;
 use modulation::Block;
 use modulation::burst as parts;
+use sync_codes::burst;
 
 // What a cell's burst adds to the sixteen chips of the slot from chip x on: bursts start at a multiple of 16.
 pub fn at(cell: CellParameter, y: Sync, x: usize) -> Block

@@ -17,10 +17,12 @@ use Rattle.complex.proofs.Sizes.{within-add, within-sub}
 use Rattle.complex.proofs.Sums.{Σ-cong, ⊗-Σ, Σ-blocks, Σℤ-cong, Σ-components}
 use Rattle.complex.proofs.Lists.{listed-at}
 use Rattle.codes.specs.Signs.{_at_}
-use Rattle.codes.specs.SyncCodes.{a, a-signs, b, b-signs, Cp, C, hadamard-part, is-sync-code}
-use Rattle.codes.specs.Held.{packed, secondary-row, sign-bit}
-use Rattle.codes.proofs.Rows.{read-back, a-test, a-signs-test, b-test}
-use Rattle.codes.proofs.Parts.{Cp-parts, C-parts, secondary-signs, sync-code-below}
+use Rattle.codes.specs.Held.{packed, sign-bit}
+use Rattle.codes.proofs.Rows.{read-back}
+use Rattle.sync_codes.specs.SyncCodes.{a, a-signs, b, b-signs, Cp, C, hadamard-part, is-sync-code}
+use Rattle.sync_codes.specs.Held.{secondary-row}
+use Rattle.sync_codes.proofs.Rows.{a-test, a-signs-test, b-test}
+use Rattle.sync_codes.proofs.Parts.{Cp-parts, C-parts, secondary-signs, sync-code-below}
 use Rattle.sync_analyser.specs.SyncReading.{correlation, P, S}
 use Rattle.sync_analyser.specs.Finding.{size-from}
 use Rattle.sync_analyser.specs.Held.{correlated, part-sums, signed-sum, size-at}

@@ -12,12 +12,13 @@ use Rattle.complex.specs.Fits.{Within, Both, Bound}
 use Rattle.complex.proofs.Ring.{⊗-swap}
 use Rattle.complex.proofs.Components.{both-conj, both-⊗}
 use Rattle.complex.proofs.Lists.{value-in-buffers}
-use Rattle.codes.specs.declared.ModulatedCode.{ModulatedCode}
-use Rattle.codes.specs.SyncCodes.{b, is-sync-code}
-use Rattle.codes.specs.Held.{packed, secondary-row}
+use Rattle.codes.specs.Held.{packed}
 use Rattle.codes.proofs.Tests.{T-true}
-use Rattle.codes.proofs.Parts.{sync-code-below}
-use Rattle.codes.proofs.Allocations.{Known, allocation-known}
+use Rattle.sync_codes.specs.declared.ModulatedCode.{ModulatedCode}
+use Rattle.sync_codes.specs.SyncCodes.{b, is-sync-code}
+use Rattle.sync_codes.specs.Held.{secondary-row}
+use Rattle.sync_codes.proofs.Parts.{sync-code-below}
+use Rattle.sync_codes.proofs.Allocations.{Known, allocation-known}
 use Rattle.sync_analyser.specs.SyncReading.{candidate, P, S, score, sent, share}
 use Rattle.sync_analyser.specs.Held.{correlated, part-sums, product, share-of, shares-of}
 use Rattle.complex.proofs.Bounds.{bound-listed}

@@ -10,10 +10,11 @@ use lib.Signed.{leZ, ltZ}
 use Rattle.complex.specs.declared.Complex.{Complex}
 use Rattle.complex.specs.Arithmetic.{_+j_, 𝟎, _⊗_, conj, Σℤ<, squared-size}
 use Rattle.complex.specs.Buffers.{listed}
-use Rattle.codes.specs.declared.ModulatedCode.{ModulatedCode}
-use Rattle.codes.specs.declared.Allocated.{Allocated}
-use Rattle.codes.specs.SyncCodes.{a-signs, is-sync-code}
-use Rattle.codes.specs.Held.{packed, secondary-row, sign-bit}
+use Rattle.codes.specs.Held.{packed, sign-bit}
+use Rattle.sync_codes.specs.declared.ModulatedCode.{ModulatedCode}
+use Rattle.sync_codes.specs.declared.Allocated.{Allocated}
+use Rattle.sync_codes.specs.SyncCodes.{a-signs, is-sync-code}
+use Rattle.sync_codes.specs.Held.{secondary-row}
 use Rattle.sync_analyser.specs.declared.sync_reading.Leader.{Leader}
 
 -- the sum of sixteen entries, `step` apart from `from` on, with the signs of a row

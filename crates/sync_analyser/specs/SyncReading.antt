@@ -8,11 +8,11 @@ use lib.ListN.{length}
 use Rattle.complex.specs.declared.Complex.{Complex}
 use Rattle.complex.specs.Arithmetic.{_⊗_, conj, Σ<}
 use Rattle.complex.specs.Buffers.{value}
-use Rattle.codes.specs.declared.ModulatedCode.{ModulatedCode}
-use Rattle.codes.specs.declared.Allocated.{Allocated}
-use Rattle.codes.specs.SyncCodes.{Cp, C}
-use Rattle.codes.specs.Allocation.{allocation, one-or-two}
 use Rattle.codes.specs.Refusals.{Answer, refused, gives, Refusal, _if_, _otherwise_}
+use Rattle.sync_codes.specs.declared.ModulatedCode.{ModulatedCode}
+use Rattle.sync_codes.specs.declared.Allocated.{Allocated}
+use Rattle.sync_codes.specs.SyncCodes.{Cp, C}
+use Rattle.sync_codes.specs.Allocation.{allocation, one-or-two}
 use Rattle.analyser.specs.Choice.{smallest, beats-others}
 use Rattle.analyser.specs.Components.{outside}
 use Rattle.sync_analyser.specs.declared.Candidate.{Candidate}

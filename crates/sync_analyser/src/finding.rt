@@ -8,8 +8,8 @@ ghost use Rattle.complex.specs.Arithmetic.{squared-size};
 ghost use Rattle.complex.specs.Buffers.{listed, value, written};
 ghost use Rattle.complex.specs.Fits.{Both, Bound};
 ghost use Rattle.codes.specs.Refusals.{number};
-ghost use Rattle.codes.specs.SyncCodes.{a};
 ghost use Rattle.codes.specs.Held.{packed};
+ghost use Rattle.sync_codes.specs.SyncCodes.{a};
 ghost use Rattle.analyser.specs.Held.{Peaks};
 ghost use Rattle.sync_analyser.specs.Finding.{find-refusals, longest-recording, peak as peak-of, scratch-length, shortest-recording};
 ghost use Rattle.sync_analyser.specs.Held.{signed-sum, size-at as size-of};
@@ -20,8 +20,8 @@ use crate::sums::times_one_minus_j;
 use analyser::components;
 use analyser::largest::Largest;
 use analyser::wide::wide;
-use codes::sync;
 use complex::Complex;
+use sync_codes::sync;
 
 // Whether no recording has n chips: a recording has 256 to 5120.
 fn is_no_recording(n: usize) -> bool

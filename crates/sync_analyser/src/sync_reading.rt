@@ -7,7 +7,7 @@ ghost use Rattle.complex.specs.Buffers.{listed, value};
 ghost use Rattle.complex.specs.Fits.{Both, Bound};
 ghost use Rattle.codes.specs.Refusals.{number};
 ghost use Rattle.codes.specs.Held.{packed};
-ghost use Rattle.codes.specs.SyncCodes.{b};
+ghost use Rattle.sync_codes.specs.SyncCodes.{b};
 ghost use Rattle.sync_analyser.specs.SyncReading.{candidate as candidate-of, candidates, P, score as score-of, sent, sync-refusals};
 ghost use Rattle.sync_analyser.specs.Held.{correlated, Leads, met as met-by, part-sums, product as product-of, share-of, shares-of};
 use crate::Candidate;
@@ -18,10 +18,10 @@ use analyser::components;
 use analyser::wide::minus;
 use analyser::wide::wide;
 use codes::CodeGroup;
-use codes::ModulatedCode;
-use codes::burst;
-use codes::sync;
 use complex::Complex;
+use sync_codes::ModulatedCode;
+use sync_codes::burst;
+use sync_codes::sync;
 
 // The number of read sync's refusal by the first four tests, before the chips are compared with the codes, or 0.
 pub fn refusal(case: u32, re: &[i32], im: &[i32]) -> u32

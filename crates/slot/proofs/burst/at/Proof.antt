@@ -11,7 +11,7 @@ use lib.Dec.{leb}
 use Rattle.complex.specs.declared.Complex.{Complex}
 use Rattle.complex.specs.Fits.{Bound}
 use Rattle.codes.specs.Scrambling.{code-group}
-use Rattle.codes.specs.Burst.{burst, burst-start}
+use Rattle.sync_codes.specs.Burst.{burst, burst-start}
 use Rattle.modulation.specs.declared.Block.{Block}
 use Rattle.slot.specs.Setup.{SyncSetup}
 use Rattle.slot.specs.Slot.{sync-chip}

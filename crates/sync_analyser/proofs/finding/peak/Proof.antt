@@ -12,8 +12,8 @@ use mir.Facts.{toZ-ofZ}
 use Rattle.complex.specs.Fits.{Bound}
 use Rattle.complex.specs.Buffers.{value, listed, written}
 use Rattle.complex.proofs.Lists.{length-listed, take-written}
-use Rattle.codes.specs.SyncCodes.{a}
 use Rattle.codes.specs.Held.{packed}
+use Rattle.sync_codes.specs.SyncCodes.{a}
 use Rattle.analyser.specs.Held.{Peaks}
 use Rattle.analyser.proofs.Choosing.{peaks-cong, peaks-is}
 use Rattle.sync_analyser.specs.Finding.{size-from}

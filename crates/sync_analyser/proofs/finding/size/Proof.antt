@@ -7,8 +7,8 @@ use mir.Val.{SFits, toZ, ofZ}
 use mir.Facts.{toZ-ofZ}
 use Rattle.complex.specs.Arithmetic.{_+j_, _⊗_, conj, squared-size}
 use Rattle.complex.specs.Fits.{Both}
-use Rattle.codes.specs.SyncCodes.{a-signs}
 use Rattle.codes.specs.Held.{packed}
+use Rattle.sync_codes.specs.SyncCodes.{a-signs}
 use Rattle.sync_analyser.specs.Held.{signed-sum, size-at}
 use Rattle.sync_analyser.proofs.Bounds.{signed-sum-within}
 use Rattle.sync_analyser.proofs.Correlations.{one-minus-j-within}

@@ -9,8 +9,8 @@ use mir.Val.{SFits}
 use mir.Facts.{toZ-ofZ}
 use Rattle.complex.specs.Buffers.{listed, written}
 use Rattle.complex.proofs.Lists.{one-more-written}
-use Rattle.codes.specs.SyncCodes.{a}
 use Rattle.codes.specs.Held.{packed}
+use Rattle.sync_codes.specs.SyncCodes.{a}
 use Rattle.complex.proofs.Bounds.{bound-more}
 use Rattle.sync_analyser.specs.Held.{signed-sum}
 use Rattle.sync_analyser.proofs.finding.sums.Statement.{statement}

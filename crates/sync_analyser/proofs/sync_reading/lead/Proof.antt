@@ -6,8 +6,8 @@ use lib.IntN.{ℤ}
 use lib.Dec.{lit≤}
 use Rattle.complex.specs.Buffers.{listed}
 use Rattle.complex.specs.Fits.{Both, Bound}
-use Rattle.codes.specs.SyncCodes.{b}
 use Rattle.codes.specs.Held.{packed}
+use Rattle.sync_codes.specs.SyncCodes.{b}
 use Rattle.sync_analyser.specs.SyncReading.{candidates}
 use Rattle.sync_analyser.specs.Held.{Leads, part-sums, product}
 use Rattle.complex.proofs.Bounds.{bound-listed, bound-more}

@@ -2,8 +2,8 @@
 use mathlib.Core.Path.{_≡_, sym, ap, _∙_, subst}
 use borrow.Author.Needs.{needs}
 use Rattle.complex.specs.Fits.{Bound}
-use Rattle.codes.specs.SyncCodes.{a}
 use Rattle.codes.specs.Held.{packed}
+use Rattle.sync_codes.specs.SyncCodes.{a}
 use Rattle.sync_analyser.specs.Held.{correlated, part-sums}
 use Rattle.sync_analyser.proofs.Correlations.{primary-is}
 use Rattle.sync_analyser.proofs.Shares.{parts-bound}

@@ -5,7 +5,7 @@ use borrow.Author.Tests.{not-true, not-false}
 use Rattle.complex.specs.declared.Complex.{Complex}
 use Rattle.complex.specs.Arithmetic.{𝟎, _⊗_, conj}
 use Rattle.complex.specs.Fits.{Both}
-use Rattle.codes.specs.Held.{secondary-row}
+use Rattle.sync_codes.specs.Held.{secondary-row}
 use Rattle.sync_analyser.specs.Held.{correlated, product}
 use Rattle.sync_analyser.proofs.Shares.{correlated-within}
 use Rattle.sync_analyser.proofs.sync_reading.product.Statement.{statement}

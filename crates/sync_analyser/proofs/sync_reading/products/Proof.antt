@@ -12,8 +12,8 @@ use Rattle.complex.specs.declared.Complex.{Complex}
 use Rattle.complex.specs.Arithmetic.{_+j_}
 use Rattle.complex.specs.Buffers.{listed, written}
 use Rattle.complex.proofs.Lists.{one-more-written, all-written}
-use Rattle.codes.specs.SyncCodes.{b}
 use Rattle.codes.specs.Held.{packed}
+use Rattle.sync_codes.specs.SyncCodes.{b}
 use Rattle.sync_analyser.specs.Held.{part-sums, product}
 use Rattle.sync_analyser.proofs.Shares.{parts-bound}
 use Rattle.sync_analyser.proofs.sync_reading.products.Statement.{statement}

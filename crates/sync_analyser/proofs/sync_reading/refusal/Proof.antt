@@ -4,8 +4,8 @@ use mathlib.Core.Bool.{Bool, true, cond}
 use borrow.Author.Needs.{needs}
 use borrow.Author.Tests.{eq-eqb, ne-eqb, not-true, not-false}
 use lib.ListN.{length, take}
-use Rattle.codes.specs.Allocation.{one-or-two}
 use Rattle.codes.specs.Refusals.{number}
+use Rattle.sync_codes.specs.Allocation.{one-or-two}
 use Rattle.sync_analyser.specs.SyncReading.{sync-refusals}
 use Rattle.sync_analyser.proofs.sync_reading.refusal.Statement.{statement}
 use Rattle.sync_analyser.proofs.sync_reading.refusal.Tie as tie

@@ -10,7 +10,7 @@ use Rattle.complex.specs.declared.Complex.{Complex}
 use Rattle.complex.specs.Buffers.{value}
 use Rattle.complex.specs.Fits.{Within, Both}
 use Rattle.complex.proofs.Sizes.{within-add, fits-within}
-use Rattle.codes.proofs.Allocations.{AllKnown, allocation-known}
+use Rattle.sync_codes.proofs.Allocations.{AllKnown, allocation-known}
 use Rattle.sync_analyser.specs.SyncReading.{candidate, sent}
 use Rattle.sync_analyser.specs.Held.{share-of, shares-of}
 use Rattle.sync_analyser.proofs.Products.{held}

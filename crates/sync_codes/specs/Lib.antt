@@ -1,0 +1,5 @@
+pub mod SyncCodes
+pub mod Allocation
+pub mod Burst
+pub mod Calls
+pub mod Held

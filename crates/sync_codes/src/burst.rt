@@ -1,0 +1,183 @@
+// Which secondary codes a code group sends, with which units, and where its burst starts.
+ghost use mathlib.Core.Path.{_≡_};
+ghost use mathlib.Core.Bool.{cond};
+ghost use Prim.Native.Nat.{_<_};
+ghost use lib.Dec.{leb};
+ghost use Rattle.complex.specs.Arithmetic.{real, 𝟏, 𝐣, _⊗_};
+ghost use Rattle.codes.specs.Signs.{minus-if};
+ghost use Rattle.sync_codes.specs.Allocation.{allocation, case-1, case-2, code-set, is-frame-and-half, one-or-two, row as row-of, signed, silent, with-unit};
+ghost use Rattle.sync_codes.specs.Burst.{burst-start};
+use crate::Allocated;
+use crate::ModulatedCode;
+use codes::CodeGroup;
+use complex::Complex;
+
+// Whether n is 1 or 2, as a case and a frame must be.
+pub fn one_or_two(n: u32) -> bool
+    ensures { λ r. ⌜ r ≡ one-or-two n ⌝ }
+{
+    match n {
+        1 => true,
+        2 => true,
+        _ => false,
+    }
+}
+
+// Frame 1 or 2, half 0 or 1, and half 0 alone in case 1.
+pub fn is_frame_and_half(case: u32, frame: u32, half: u32) -> bool
+    ensures { λ r. ⌜ r ≡ is-frame-and-half case frame half ⌝ }
+{
+    if !one_or_two(frame) {
+        return false;
+    }
+    if 2 <= half {
+        return false;
+    }
+    if half == 1 { case != 1 } else { true }
+}
+
+// A code set (A, B, D).
+pub struct CodeSet {
+    pub a: u32,
+    pub b: u32,
+    pub d: u32,
+}
+
+// Code set n of the four.
+fn code_set(n: u32) -> CodeSet
+    requires { ⌜ (0 < n) × (n < 5) ⌝ }
+    ensures { λ r. ⌜ r ≡ code-set n ⌝ }
+{
+    match n {
+        1 => CodeSet { a: 1, b: 3, d: 5 },
+        2 => CodeSet {
+            a: 10,
+            b: 13,
+            d: 14,
+        },
+        3 => CodeSet { a: 0, b: 6, d: 12 },
+        _ => CodeSet { a: 4, b: 8, d: 15 },
+    }
+}
+
+// The unit 1, or j where imaginary; its negative where negative.
+fn unit(imaginary: bool, negative: bool) -> Complex
+    ensures { λ r. ⌜ r ≡ real (minus-if negative) ⊗ cond imaginary 𝐣 𝟏 ⌝ }
+{
+    if imaginary {
+        if negative {
+            Complex { re: 0, im: -1 }
+        } else {
+            Complex { re: 0, im: 1 }
+        }
+    } else {
+        if negative {
+            Complex { re: -1, im: 0 }
+        } else {
+            Complex { re: 1, im: 0 }
+        }
+    }
+}
+
+// A pair of codes and a marker, each with its unit.
+fn three(a: u32, u: Complex, b: u32, v: Complex, d: u32, w: Complex) -> Allocated
+    ensures { λ r. ⌜ r ≡ record { first = with-unit a u; second = with-unit b v; marker = with-unit d w } ⌝ }
+{
+    Allocated {
+        first: ModulatedCode { code: a, unit: u },
+        second: ModulatedCode { code: b, unit: v },
+        marker: ModulatedCode { code: d, unit: w },
+    }
+}
+
+// A row of the tables for a code set; the flags say which of the pair and whether the marker is negative.
+fn arranged(row: u32, set: CodeSet, first: bool, second: bool, marker: bool) -> Allocated
+    requires { ⌜ row < 4 ⌝ }
+    ensures { λ r. ⌜ r ≡ signed (row-of row set) (minus-if first) (minus-if second) (minus-if marker) ⌝ }
+{
+    let u = unit(row != 0, first);
+    let v = unit(row != 0, second);
+    let w = unit(false, marker);
+    match row {
+        0 => three(set.a, u, set.b, v, set.d, w),
+        1 => three(set.a, u, set.b, v, set.d, w),
+        2 => three(set.a, u, set.d, v, set.b, w),
+        _ => three(set.b, u, set.d, v, set.a, w),
+    }
+}
+
+// The codes of group g in case 1.
+fn case_1(g: u32, frame: u32) -> Allocated
+    requires { ⌜ g < 32 ⌝ }
+    ensures { λ r. ⌜ r ≡ case-1 g frame ⌝ }
+{
+    let r = g % 16;
+    arranged(
+        r / 4,
+        code_set(1 + g / 16),
+        2 <= r % 4,
+        r % 2 == 1,
+        frame == 2,
+    )
+}
+
+// The codes of group g in case 2.
+fn case_2(g: u32, frame: u32, half: u32) -> Allocated
+    requires { ⌜ g < 32 ⌝ }
+    ensures { λ r. ⌜ r ≡ case-2 g frame half ⌝ }
+{
+    let r = g % 8;
+    arranged(
+        r / 2,
+        code_set(1 + g / 8),
+        frame == 2,
+        (frame == 2) != (r % 2 == 1),
+        half == 1,
+    )
+}
+
+// The codes of a group with their units in a case, a frame and a half; units of 0 outside the range of any of them.
+pub fn allocated(case: u32, group: CodeGroup, frame: u32, half: u32) -> Allocated
+    ensures { λ r. ⌜ r ≡ allocation case (group .0) frame half ⌝ }
+{
+    if 32 <= group.0 {
+        return silent();
+    }
+    if !is_frame_and_half(case, frame, half) {
+        return silent();
+    }
+    match case {
+        1 => case_1(group.0, frame),
+        2 => case_2(group.0, frame, half),
+        _ => silent(),
+    }
+}
+
+// Three codes with units of 0: nothing is sent.
+fn silent() -> Allocated
+    ensures { λ r. ⌜ r ≡ silent ⌝ }
+{
+    let none = ModulatedCode {
+        code: 0,
+        unit: Complex { re: 0, im: 0 },
+    };
+    Allocated {
+        first: none,
+        second: none,
+        marker: none,
+    }
+}
+
+// The chip of the slot at which a group's burst starts; 0 for a group above 31.
+pub fn start_of(group: CodeGroup) -> u32
+    ensures { λ r. ⌜ r ≡ cond (leb 32 (group .0)) 0 (burst-start (group .0)) ⌝ }
+{
+    if 32 <= group.0 {
+        return 0;
+    }
+    if group.0 < 16 {
+        48 * group.0
+    } else {
+        720 + 48 * group.0
+    }
+}
