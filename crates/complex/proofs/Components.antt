@@ -1,6 +1,7 @@
 -- The size of a complex value: both components are at most k in size. Assumes nothing.
 use mathlib.Core.Path.{sym, subst}
 use Prim.Native.Nat.{ℕ, zero, suc, _+_, _*_, _≤_, _<_, _^_}
+use native.Mathlib.Nat.{le-refl}
 use native.Mathlib.Omega.{arith}
 use lib.Dec.{T, ltb, lit≤}
 use lib.IntN.{ℤ, pos}
@@ -82,3 +83,11 @@ pub within-Σℤ : (k n : ℕ) (f : ℕ → ℤ) → ((i : ℕ) → i < n → Wi
 unfolding Σℤ<
 within-Σℤ k zero f h = within-more none (0 * k) (omega arith)
 within-Σℤ k (suc n) f h = within-more (within-add (within-Σℤ k n f (λ i l. h i (omega arith))) (h n (omega arith))) (suc n * k) (omega arith)
+
+-- a gain times a value
+pub gained-within : {k : ℕ} {x : Complex} → Both k x → (g : ℕ) → Both (g * k) (real (pos g) ⊗ x)
+gained-within {k} {x} h g =
+    subst (Both (g * k)) (sym (real-⊗ (pos g) x)) (record { re = within-mul gain (h .re); im = within-mul gain (h .im) })
+  where
+    gain : Within g (pos g)
+    gain = record { size = le-refl g }

@@ -2,7 +2,7 @@
 use mathlib.Core.Path.{_≡_, refl, sym, ap, ap₂, _∙_}
 use mathlib.Core.List.{List, [], _∷_, _++_, append-assoc, append-nil}
 use Prim.Native.Nat.{ℕ, zero, suc, _+_, _<_}
-use native.Mathlib.Nat.{not-suc-le-zero}
+use native.Mathlib.Nat.{not-suc-le-zero, add-zero, add-suc}
 use native.Mathlib.Numerals.{add-one}
 use native.Mathlib.Decide.{ℕ-discrete}
 use native.Mathlib.Omega.{arith}
@@ -29,6 +29,15 @@ module _ {A : Type 0} (f : ℕ → A) where
       pick (no e) r =
           let m : k < n = omega arith in
           List·getD-append (listed n f) (f n ∷ []) d k (rw (length-listed n) m) ∙ r m
+
+  -- a list in two parts
+  pub listed-++ : (m n : ℕ) → listed m f ++ listed n (λ i. f (m + i)) ≡ listed (m + n) f
+  unfolding listed
+  listed-++ m zero = append-nil (listed m f) ∙ ap (λ (k : ℕ). listed k f) (sym (add-zero m))
+  listed-++ m (suc n) =
+      sym (append-assoc (listed m f) (listed n (λ i. f (m + i))) (f (m + n) ∷ []))
+      ∙ ap (λ (l : List A). l ++ (f (m + n) ∷ [])) (listed-++ m n)
+      ∙ ap (λ (k : ℕ). listed k f) (sym (add-suc m n))
 
   -- a loop writes entry n
   pub one-more-written : (d : List A) (n : ℕ) → n < length d → set (written (listed n f) d) n (f n) ≡ written (listed (n + 1) f) d

@@ -85,6 +85,10 @@ unfolding conj
 conj-conj x = by-components refl (negℤ-negℤ (x .im))
 
 -- ---- whole numbers among them
+pub real-zero : real (pos 0) ≡ 𝟎
+unfolding real 𝟎
+real-zero = refl
+
 pub real-+ℤ : (x y : ℤ) → real (x +ℤ y) ≡ real x ⊕ real y
 unfolding real _⊕_
 real-+ℤ x y = refl

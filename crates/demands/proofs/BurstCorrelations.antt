@@ -6,9 +6,9 @@ use Prim.Native.Nat.{ℕ, suc, _*_, _<_, compare·zero-suc, compare·suc-zero, c
 use lib.Dec.{T, eqb}
 use lib.IntN.{ℤ, pos, _+ℤ_, _*ℤ_, zero-*ℤ, negℤ-negℤ}
 use Rattle.complex.specs.declared.Complex.{Complex}
-use Rattle.complex.specs.Arithmetic.{real, 𝟎, _⊕_, _⊗_, conj}
+use Rattle.complex.specs.Arithmetic.{real, _⊕_, _⊗_, conj}
 use Rattle.complex.proofs.Integers.{ring, *ℤ-negℤ, *ℤ-+ℤ}
-use Rattle.complex.proofs.Ring.{products, ⊗-assoc, ⊕-⊗, ⊗-⊕, ⊗-𝟎, ⊕-𝟎, 𝟎-⊕, conj-⊗, conj-real, real-*ℤ, real-⊗}
+use Rattle.complex.proofs.Ring.{real-zero, products, ⊗-assoc, ⊕-⊗, ⊗-⊕, ⊗-𝟎, ⊕-𝟎, 𝟎-⊕, conj-⊗, conj-real, real-*ℤ, real-⊗}
 use Rattle.complex.proofs.Sums.{Σ-cong, Σ-⊕, ⊗-Σ}
 use Rattle.sync_codes.specs.declared.ModulatedCode.{ModulatedCode}
 use Rattle.sync_codes.specs.declared.Allocated.{Allocated}
@@ -67,10 +67,6 @@ overlap-times false x = zero-*ℤ x
 gather : (k w x y z : ℤ) → k *ℤ (w *ℤ x +ℤ w *ℤ y +ℤ w *ℤ z) ≡ (k *ℤ w) *ℤ (x +ℤ y +ℤ z)
 gather k w x y z = simp ring
 
-no-overlap : real (pos 0) ≡ 𝟎
-unfolding real 𝟎
-no-overlap = refl
-
 -- the chips of a burst with these codes
 unfoldable pub chips : ℕ → ℕ → Allocated → ℕ → Complex
 chips gP gS s n = real (pos gP) ⊗ Cp n ⊕ real (pos gS) ⊗ secondaries s n
@@ -94,7 +90,7 @@ module _ (gP gS : ℕ) (s : Allocated) (c : AllKnown s) where
       ))
 
   primary : P (chips gP gS s) ≡ real (pos gP) ⊗ real (pos 512)
-  primary = by-codes 0 tt ∙ simp (compare·suc-zero, no-overlap, ⊗-𝟎, ⊕-𝟎)
+  primary = by-codes 0 tt ∙ simp (compare·suc-zero, real-zero, ⊗-𝟎, ⊕-𝟎)
 
   module _ (m : ModulatedCode) (t : Known m) where
     -- what the code is heard with
@@ -103,7 +99,7 @@ module _ (gP gS : ℕ) (s : Allocated) (c : AllKnown s) where
 
     secondary : S (chips gP gS s) (m .code) ≡ real (pos gS) ⊗ (part (s .first) ⊕ part (s .second) ⊕ part (s .marker))
     unfolding part
-    secondary = by-codes (suc (m .code)) (t .listed) ∙ simp (compare·zero-suc, compare·suc-suc, no-overlap, ⊗-𝟎, 𝟎-⊕)
+    secondary = by-codes (suc (m .code)) (t .listed) ∙ simp (compare·zero-suc, compare·suc-suc, real-zero, ⊗-𝟎, 𝟎-⊕)
 
     turned : (n : ModulatedCode) → (part n ⊗ conj (m .unit)) .re ≡ pos 512 *ℤ match n m
     unfolding part match

@@ -9,7 +9,7 @@ use lib.Dec.{ltb}
 use lib.IntN.{ℤ}
 use Rattle.complex.specs.declared.Complex.{Complex}
 use Rattle.complex.specs.Arithmetic.{𝟎, _⊕_}
-use Rattle.complex.specs.Buffers.{Values, in-buffers}
+use Rattle.complex.specs.Buffers.{Values}
 use Rattle.complex.proofs.Ring.{𝟎-⊕, ⊕-𝟎}
 use Rattle.complex.proofs.Sums.{Σ-𝟎}
 use Rattle.codes.specs.Refusals.{gives}

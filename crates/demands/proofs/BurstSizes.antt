@@ -2,18 +2,16 @@
 use mathlib.Core.Path.{sym, subst}
 use mathlib.Core.Bool.{Bool, true, false, cond}
 use Prim.Native.Nat.{ℕ, _*_, _%_, _≤_}
-use native.Mathlib.Nat.{le-refl}
 use native.Mathlib.Omega.{arith}
 use lib.Bits.{bitAnd}
 use lib.Count.{ones}
 use lib.Dec.{eqb, lit≤}
 use lib.IntN.{ℤ, pos, _*ℤ_}
-use Rattle.complex.specs.declared.Complex.{Complex}
 use Rattle.complex.specs.Arithmetic.{_+j_, real, 𝟎, _⊗_}
 use Rattle.complex.specs.Fits.{Within, Both}
 use Rattle.complex.proofs.Sizes.{within-mul}
-use Rattle.complex.proofs.Ring.{real-⊗, real-one-plus-j}
-use Rattle.complex.proofs.Components.{both-⊕, both-⊗, both-more}
+use Rattle.complex.proofs.Ring.{real-one-plus-j}
+use Rattle.complex.proofs.Components.{gained-within, both-⊕, both-⊗, both-more}
 use Rattle.codes.proofs.Rows.{row-within, minus-if-within}
 use Rattle.sync_codes.specs.declared.ModulatedCode.{ModulatedCode}
 use Rattle.sync_codes.specs.declared.Allocated.{Allocated}
@@ -38,13 +36,6 @@ secondary-within i n = go (is-sync-code i)
     go : (c : Bool) → Both 1 (cond c (real (z n *ℤ hadamard (16 * i) n) ⊗ (pos 1 +j pos 1)) 𝟎)
     go true = one-plus-j-within (within-mul (within-mul (row-within b-signs b-signs-test _) (row-within b b-test _)) (minus-if-within (eqb (ones (bitAnd (16 * i) n) % 2) 1)))
     go false = record { re = record { size = lit≤ tt }; im = record { size = lit≤ tt } }
-
-gained-within : {k : ℕ} {x : Complex} → Both k x → (g : ℕ) → Both (g * k) (real (pos g) ⊗ x)
-gained-within {k} {x} h g =
-    subst (Both (g * k)) (sym (real-⊗ (pos g) x)) (record { re = within-mul gain (h .re); im = within-mul gain (h .im) })
-  where
-    gain : Within g (pos g)
-    gain = record { size = le-refl g }
 
 -- ---- the burst
 pub chips-within : (gP gS : ℕ) (s : Allocated) → AllKnown s → gP ≤ 4095 → gS ≤ 4095 → (n : ℕ) → Both 28665 (chips gP gS s n)

@@ -1,31 +1,29 @@
 -- The chips of a data field: what a slot has in it, and how large its components are. Assumes nothing.
-use mathlib.Core.Path.{_≡_, refl, sym, ap, ap₂, subst, _∙_}
-use mathlib.Core.Bool.{Bool, true, false, _&&_, _||_, cond}
+use mathlib.Core.Path.{_≡_, refl, sym, _∙_}
+use mathlib.Core.Bool.{Bool, true, false, _&&_, cond}
 use mathlib.Core.List.{[], _∷_}
 use mathlib.Core.Option.{Option, none, some}
 use Prim.Native.Nat.{ℕ, _+_, _-_, _%_, _≤_, _<_, zero-le}
 use native.Mathlib.Nat.{zero-add}
-use native.Mathlib.Decide.{decLt, ℕ-discrete}
 use native.Mathlib.Omega.{arith}
-use borrow.Author.Tests.{lt-ltb, le-ltb, ne-eqb}
-use lib.Dec.{T, eqb, leb, ltb, lit≤, lit<}
-use lib.IntN.{pos}
-use lib.ListN.{length, getD, drop, length-drop}
+use borrow.Author.Tests.{lt-ltb, le-ltb}
+use lib.Dec.{T, leb, ltb, lit≤, lit<}
+use lib.ListN.{length, drop, length-drop}
 use lib.Seq.{ext-getD, getD-drop, getD-take, length-take-le}
 use Rattle.complex.specs.declared.Complex.{Complex}
 use Rattle.complex.specs.Arithmetic.{𝟎, _⊕_}
-use Rattle.complex.specs.Buffers.{listed, Values, in-buffers}
+use Rattle.complex.specs.Buffers.{listed}
 use Rattle.complex.specs.Fits.{Both}
-use Rattle.complex.proofs.Components.{both-⊕, both-more}
+use Rattle.complex.proofs.Components.{both-⊕}
 use Rattle.complex.proofs.Lists.{length-listed, listed-at}
 use Rattle.codes.specs.Scrambling.{code-group}
 use Rattle.codes.specs.Tree.{among}
-use Rattle.codes.proofs.Factors.{All, of-all}
+use Rattle.codes.proofs.Factors.{of-all}
 use Rattle.sync_codes.specs.Burst.{burst, burst-start}
 use Rattle.sync_codes.proofs.Allocations.{allocation-known}
 use Rattle.slot.specs.declared.parts.Parts.{Parts}
 use Rattle.slot.specs.Setup.{SyncSetup, Setup}
-use Rattle.slot.specs.Slot.{burst-type, data-chip, sync-chip, chip, data-chips}
+use Rattle.slot.specs.Slot.{burst-type, data-chip, sync-chip, chip}
 use Rattle.demands.specs.Fields.{Field, field-1, field-2, field-length, field-start, field-before, part}
 use Rattle.demands.proofs.BurstCorrelations.{chips}
 use Rattle.demands.proofs.BurstSizes.{chips-within}

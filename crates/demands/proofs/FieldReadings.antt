@@ -1,39 +1,33 @@
 -- What read gives for a data field of a slot: demand 3's readings. Assumes nothing.
-use mathlib.Core.Path.{_≡_, refl, sym, ap, ap₂, subst, _∙_}
-use mathlib.Core.Logic.{_≢_}
-use mathlib.Core.Bool.{Bool, true, false, not, _&&_, _||_, cond}
-use mathlib.Core.List.{List, [], _∷_, List·Memᴰ}
+use mathlib.Core.Path.{_≡_, refl, ap, ap₂, _∙_}
+use mathlib.Core.Bool.{true, false, _&&_}
+use mathlib.Core.List.{List}
 use mathlib.Core.Option.{Option, none, some}
-use Prim.Native.Nat.{ℕ, _+_, _*_, _-_, _/_, _%_, _≤_, _<_}
+use Prim.Native.Nat.{ℕ, _+_, _*_, _/_, _%_, _≤_, _<_}
 use native.Mathlib.Nat.{div-mul-le-self, mul-le-mul-right}
 use native.Mathlib.Omega.{arith}
-use borrow.Author.Tests.{lt-leb, le-leb, lt-ltb, le-ltb, eq-eqb, ne-eqb, ltb-true, leb-true}
-use mir.Facts.{and-yes}
-use lib.Dec.{T, eqb, leb, ltb, lit≤, ltb→lt}
+use borrow.Author.Tests.{lt-leb, le-ltb, eq-eqb, ne-eqb}
+use lib.Dec.{leb, ltb, lit≤}
 use lib.IntN.{ℤ, pos}
-use lib.ListN.{length, getD}
+use lib.ListN.{length}
 use Rattle.complex.specs.declared.Complex.{Complex}
-use Rattle.complex.specs.Arithmetic.{real, 𝟎, _⊕_, _⊗_, conj, Σ<}
-use Rattle.complex.specs.Buffers.{value, listed, Values, in-buffers}
+use Rattle.complex.specs.Arithmetic.{real, 𝟎, _⊕_, _⊗_, conj}
+use Rattle.complex.specs.Buffers.{value, Values, in-buffers}
 use Rattle.complex.specs.Fits.{Both}
-use Rattle.complex.proofs.Components.{both-more}
 use Rattle.complex.proofs.Lists.{length-listed, listed-cong, value-in-buffers}
-use Rattle.complex.proofs.Ring.{⊕-𝟎, 𝟎-⊗}
+use Rattle.complex.proofs.Ring.{𝟎-⊗}
 use Rattle.complex.proofs.Sizes.{within-more}
 use Rattle.complex.proofs.Sums.{Σ-cong, Σ-𝟎}
-use Rattle.codes.specs.Refusals.{Answer, gives}
+use Rattle.codes.specs.Refusals.{gives}
 use Rattle.codes.specs.Scrambling.{scrambling, code-group}
-use Rattle.codes.specs.Tree.{is-code, is-spreading-factor, element}
-use Rattle.codes.proofs.Factors.{factor-range}
-use Rattle.codes.proofs.Tests.{T-true}
+use Rattle.codes.specs.Tree.{is-code, element}
 use Rattle.sync_codes.specs.Burst.{burst-start}
-use Rattle.analyser.specs.Components.{outside}
-use Rattle.analyser.specs.Reading.{reading, no-field, read-call}
+use Rattle.analyser.specs.Reading.{reading, read-call}
 use Rattle.analyser.proofs.Ranges.{none-outside}
-use Rattle.slot.specs.Setup.{Channel, SyncSetup, Setup, is-some}
+use Rattle.slot.specs.Setup.{SyncSetup, Setup, is-some}
 use Rattle.slot.specs.Slot.{data-chip, sync-chip, chip}
 use Rattle.demands.specs.Slots.{Slot, InOrder}
-use Rattle.demands.specs.Fields.{Field, field-length, field-start, field-before, part, field-part, Drawn, DrawnWhole, field-read, reading-count, Suffice, own-readings, zero-readings, burst-read, quiet-read, added, BurstAdds, burst-at, no-burst}
+use Rattle.demands.specs.Fields.{Field, field-length, field-start, field-before, part, Drawn, DrawnWhole, field-read, reading-count, Suffice, burst-at}
 use Rattle.demands.proofs.Readings.{reading-additive}
 use Rattle.demands.proofs.Entries.{code-of}
 use Rattle.demands.proofs.Valid.{Valid}

@@ -1,6 +1,6 @@
 -- Demand 2: "hardening the readings of a channel in a slot without sync yields the bits it held when that slot started". Assumes nothing.
-use mathlib.Core.Path.{_≡_, refl, sym, ap, subst, _∙_}
-use mathlib.Core.Bool.{Bool, true, false, not, cond}
+use mathlib.Core.Path.{_≡_, refl, sym, ap, _∙_}
+use mathlib.Core.Bool.{true, cond}
 use mathlib.Core.List.{List, [], _∷_, _++_, List·Memᴰ}
 use mathlib.Core.Option.{none, some}
 use Prim.Native.Nat.{ℕ, _+_, _*_, _/_, _%_, _≤_, _<_}
@@ -10,15 +10,15 @@ use native.Mathlib.Omega.{arith}
 use borrow.Author.Tests.{eq-eqb, ne-eqb, le-ltb}
 use lib.Dec.{eqb}
 use lib.IntN.{ℤ, pos}
-use lib.ListN.{length, getD, take, drop, length-drop, take-append-drop}
+use lib.ListN.{length, getD, drop, length-drop, take-append-drop}
 use lib.Seq.{ext-getD, getD-drop, getD-take, length-take-le, take-all}
 use Rattle.complex.specs.declared.Complex.{Complex}
 use Rattle.complex.specs.Arithmetic.{real, _⊗_}
 use Rattle.complex.specs.Buffers.{value, listed, Values, in-buffers}
-use Rattle.complex.proofs.Lists.{length-listed, listed-at, listed-cong, value-in-buffers}
-use Rattle.codes.specs.Refusals.{Answer, gives}
+use Rattle.complex.proofs.Lists.{length-listed, listed-at, value-in-buffers}
+use Rattle.codes.specs.Refusals.{gives}
 use Rattle.codes.specs.Tree.{among, is-spreading-factor}
-use Rattle.codes.proofs.Factors.{All, of-all, of-factors, factor-range}
+use Rattle.codes.proofs.Factors.{of-all, of-factors, factor-range}
 use Rattle.codes.proofs.Tests.{each-all}
 use Rattle.modulation.specs.Symbols.{pair, symbol}
 use Rattle.slot.specs.Setup.{Channel, Setup}
@@ -27,7 +27,7 @@ use Rattle.analyser.specs.Hardening.{hard-pair, hard-bit, harden-call}
 use Rattle.bench.proofs.Accepted.{Code}
 use Rattle.demands.specs.Calls.{Call}
 use Rattle.demands.specs.Slots.{Slot, slots}
-use Rattle.demands.specs.Fields.{Field, field-1, field-2, field-length, field-start, field-before, part, DrawnWhole, field-read, reading-count, Suffice, own-readings, burst-at, no-burst, field-bits}
+use Rattle.demands.specs.Fields.{Field, field-1, field-2, field-length, field-start, field-before, part, DrawnWhole, field-read, reading-count, Suffice, no-burst, field-bits}
 use Rattle.demands.proofs.Entries.{code-of}
 use Rattle.demands.proofs.Valid.{Held, Valid}
 use Rattle.demands.proofs.History.{slot-valid}

@@ -4,16 +4,15 @@ use lib.IntN.{ℤ}
 use mathlib.Core.Path.{_≡_, refl, sym, ap, ap₂, subst, _∙_}
 use mathlib.Core.Logic.{_↔_}
 use mathlib.Core.Bool.{Bool, true, false, not, cond}
-use mathlib.Core.List.{List, [], _∷_, _++_, map, append-assoc, append-nil, List·Memᴰ, List·Memᴰ·head, List·Memᴰ·tail}
+use mathlib.Core.List.{List, [], _∷_, map, List·Memᴰ, List·Memᴰ·head, List·Memᴰ·tail}
 use mathlib.Core.Option.{Option, none, some, Option·none-ne-some, Option·some-ne-none, Option·some-injective}
-use Prim.Native.Nat.{ℕ, zero, suc, _+_, _-_, min}
-use native.Mathlib.Nat.{add-zero, add-suc}
+use Prim.Native.Nat.{ℕ, _+_, _-_, min}
 use native.Mathlib.Omega.{arith}
 use borrow.Author.Tests.{eqb-true}
 use lib.Dec.{eqb}
 use lib.ListN.{length}
 use Rattle.complex.specs.Buffers.{Values, listed, in-buffers}
-use Rattle.complex.proofs.Lists.{length-listed}
+use Rattle.complex.proofs.Lists.{length-listed, listed-++}
 use Rattle.codes.specs.Refusals.{Answer, refused, gives, _if_, _otherwise_}
 use Rattle.slot.specs.Setup.{Setup}
 use Rattle.slot.specs.Slot.{slot-length, chip}
@@ -25,12 +24,6 @@ use Rattle.demands.specs.BenchSteps.{bench-step}
 use Rattle.demands.specs.Slots.{Slot, extended, is-start, noted, slots-from, slots, InOrder, NothingLeft}
 use Rattle.demands.proofs.Valid.{Valid, ValidReference}
 use Rattle.demands.proofs.Answers.{reference-of, seen, ValidBench, agrees, bench-step-valid, fresh-same, fresh-bench-valid, answers, reached, bench-valid, reference-valid}
-
--- ---- a list in two parts
-listed-more : {A : Type 0} (f : ℕ → A) (n m : ℕ) → listed n f ++ listed m (λ i. f (n + i)) ≡ listed (n + m) f
-unfolding listed
-listed-more f n zero = rw add-zero (append-nil (listed n f))
-listed-more {A} f n (suc m) = rw add-suc (sym (append-assoc (listed n f) _ _) ∙ ap (λ (l : List A). l ++ (f (n + m) ∷ [])) (listed-more f n m))
 
 -- ---- what holds of each accepted start
 record Good (x : Slot) : Type 0 where
@@ -104,7 +97,7 @@ more-drawn s c n m x past l g =
     let f = chip (x .settings) in (
       record {
         copy = ap (λ (u : Setup). cond (eqb (n + m) slot-length) none (some u)) e;
-        chips = rw (l .chips, e) (ap₂ (λ (a b : List ℤ). record { re = a; im = b }) (listed-more (λ i. f i .re) n m) (listed-more (λ i. f i .im) n m));
+        chips = rw (l .chips, e) (ap₂ (λ (a b : List ℤ). record { re = a; im = b }) (listed-++ (λ i. f i .re) n m) (listed-++ (λ i. f i .im) n m));
         valid = l .valid;
       },
       g,

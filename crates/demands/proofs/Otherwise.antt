@@ -16,7 +16,3 @@ module _ {A B : Type 0} (R : Answer A → Answer B → Type 0) (refusals : (n : 
           → R (cond t (refused (r .number)) (rs otherwise a)) (cond t (refused (r .number)) (rs otherwise b))
       go true e f = refusals (r .number)
       go false e f = f (λ p. h (e, p))
-
--- what holds of each refusal, and of the change where none is given, holds of the answer
-pub either-way : {A : Type 0} (P : Answer A → Type 0) → ((n : ℕ) → P (refused n)) → (rs : List Refusal) (a : A) → (Passed rs → P (gives a)) → P (rs otherwise a)
-either-way {A} P f rs a h = alike (λ (x y : Answer A). P y) f rs a a h

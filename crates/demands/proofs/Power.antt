@@ -8,10 +8,9 @@ use native.Mathlib.Omega.{arith}
 use borrow.Author.Tests.{not-true}
 use lib.Dec.{T}
 use lib.IntN.{ℤ}
-use lib.ListN.{length}
 use Rattle.complex.specs.declared.Complex.{Complex}
 use Rattle.complex.specs.Arithmetic.{squared-size, _⊕_}
-use Rattle.complex.specs.Buffers.{value, Values}
+use Rattle.complex.specs.Buffers.{value}
 use Rattle.complex.proofs.Ring.{⊕-𝟎}
 use Rattle.complex.proofs.Sums.{Σℤ-cong}
 use Rattle.codes.proofs.Tests.{each-at, T-true}

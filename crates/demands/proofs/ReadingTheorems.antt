@@ -1,34 +1,34 @@
 -- Demand 3's readings: "When a data field drawn whole is read with that start's cell parameter, each reading of a code open at that start is its
 -- spreading factor times its gain times its own symbol, and each of a code unrelated to all of those is zero, whatever the others send. A sync burst
 -- adds exactly its own reading." Assumes nothing.
-use mathlib.Core.Path.{_≡_, refl, sym, ap, ap₂, subst, _∙_}
-use mathlib.Core.Bool.{Bool, true, false, not, _&&_}
+use mathlib.Core.Path.{_≡_, sym, ap, ap₂, subst, _∙_}
+use mathlib.Core.Bool.{true, false, not, _&&_}
 use mathlib.Core.List.{List, List·Memᴰ}
 use mathlib.Core.Option.{none, some}
-use Prim.Native.Nat.{ℕ, _+_, _*_, _/_, _<_}
+use Prim.Native.Nat.{ℕ, _+_, _<_}
 use borrow.Author.Tests.{not-true}
 use lib.Dec.{T, lit≤}
-use lib.IntN.{ℤ, pos}
+use lib.IntN.{ℤ}
 use Rattle.complex.specs.declared.Complex.{Complex}
-use Rattle.complex.specs.Arithmetic.{real, 𝟎, _⊕_, _⊗_}
-use Rattle.complex.specs.Buffers.{value, Values, in-buffers}
+use Rattle.complex.specs.Arithmetic.{𝟎, _⊕_}
+use Rattle.complex.specs.Buffers.{Values, in-buffers}
 use Rattle.complex.proofs.Components.{both-more}
 use Rattle.complex.proofs.Lists.{value-in-buffers}
-use Rattle.complex.proofs.Ring.{⊕-𝟎, 𝟎-⊕}
+use Rattle.complex.proofs.Ring.{⊕-𝟎}
 use Rattle.complex.proofs.Sizes.{within-more}
 use Rattle.codes.specs.Refusals.{gives}
 use Rattle.codes.specs.Tree.{is-code, related}
-use Rattle.codes.proofs.Tests.{each-at, each-all, T-true}
+use Rattle.codes.proofs.Tests.{each-at, T-true}
 use Rattle.slot.specs.Setup.{Channel, Setup, is-some, is-open}
 use Rattle.slot.specs.Slot.{data-chip, sync-chip, chip}
 use Rattle.analyser.specs.Components.{outside}
-use Rattle.analyser.specs.Reading.{reading, read-call}
+use Rattle.analyser.specs.Reading.{reading}
 use Rattle.analyser.proofs.Ranges.{none-outside}
 use Rattle.bench.specs.BenchCalls.{related-to-open}
 use Rattle.demands.specs.Calls.{Call}
 use Rattle.demands.specs.Reference.{with-sync}
 use Rattle.demands.specs.Slots.{Slot, slots, InOrder}
-use Rattle.demands.specs.Fields.{Field, field-length, field-start, field-before, DrawnWhole, field-read, reading-count, Suffice, own-readings, zero-readings, burst-at, no-burst, burst-read, quiet-read, added, BurstAdds}
+use Rattle.demands.specs.Fields.{Field, field-length, field-start, field-before, DrawnWhole, field-read, reading-count, Suffice, own-readings, zero-readings, burst-at, no-burst, BurstAdds}
 use Rattle.demands.proofs.Entries.{code-of, no-code-passes}
 use Rattle.demands.proofs.Valid.{Valid, sync-cleared-valid}
 use Rattle.demands.proofs.History.{in-order, slot-valid}

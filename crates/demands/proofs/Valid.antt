@@ -5,26 +5,22 @@ use mathlib.Core.Logic.{_⊎_, inl, inr}
 use mathlib.Core.Bool.{Bool, true, false, not, _&&_, cond, and-comm, or-comm, true≢false, false≢true}
 use mathlib.Core.List.{List, [], _∷_}
 use mathlib.Core.Option.{Option, none, some, Option·none-ne-some, Option·some-injective}
-use Prim.Native.Nat.{ℕ, zero, suc, _+_, _-_, _≤_, _<_, min}
+use Prim.Native.Nat.{ℕ, zero, suc, _≤_, _<_}
 use native.Mathlib.Omega.{arith}
-use borrow.Author.Tests.{leb-false, eqb-true, eqb-false, not-false}
+use borrow.Author.Tests.{leb-false, eqb-true, not-false}
 use lib.Dec.{T, eqb, eqb→eq, leb, leb→le}
 use lib.ListN.{length, getD, replicate, length-replicate}
 use mir.Facts.{and-yes}
-use Rattle.codes.specs.Refusals.{Answer, refused, gives, Refusal, _if_, _otherwise_}
 use Rattle.codes.specs.Tree.{among, is-code, at-or-above, related}
 use Rattle.codes.proofs.Refused.{Passed}
 use Rattle.codes.proofs.Tests.{neither}
 use Rattle.sync_codes.specs.Allocation.{one-or-two, is-frame-and-half}
 use Rattle.slot.specs.Setup.{Channel, SyncSetup, Setup, is-some, is-open}
 use Rattle.slot.specs.Slot.{slot-length, bit-count}
-use Rattle.bench.specs.declared.Channel.{Channel as Record}
-use Rattle.bench.specs.BenchCalls.{bad-gain, related-to-open, set-cell-refusals, open-refusals, AnswerAt, refused-at, loads, close-refusals, set-gain-refusals, load-bits-refusals, set-sync-refusals}
+use Rattle.bench.specs.BenchCalls.{bad-gain, related-to-open, set-cell-refusals, open-refusals, close-refusals, set-gain-refusals, load-bits-refusals, set-sync-refusals}
 use Rattle.bench.proofs.Accepted.{good-code}
 use Rattle.bench.proofs.Loading.{is-bit}
-use Rattle.demands.specs.Calls.{Call, set-cell, open-code, load-plan, close, set-gain, load-bits, set-sync, clear-sync, start, draw}
-use Rattle.demands.specs.Reference.{Reference, cell-set, fresh-reference, with-channel, opened, closed, changed, gain-set, bits-loaded, with-sync, nothing-open, records-opened, plan-loaded, under-way, by-entry, by-plan, started, drawn, reference-step}
-use Rattle.demands.proofs.Otherwise.{either-way}
+use Rattle.demands.specs.Reference.{Reference, cell-set, fresh-reference, with-channel, opened, closed, changed, gain-set, bits-loaded, with-sync, nothing-open}
 use Rattle.demands.proofs.Entries.{code-of, no-code-passes}
 use Rattle.demands.proofs.TableLaws.{OnlyItself}
 

@@ -3,7 +3,7 @@ use lib.IntN.{ℤ}
 use Prim.Native.Nat.{ℕ}
 use mathlib.Core.List.{List}
 use lib.ListN.{length, take}
-use Rattle.complex.specs.Buffers.{Values, written}
+use Rattle.complex.specs.Buffers.{written}
 use Rattle.codes.specs.Refusals.{Answer, refused, gives, outcome, after}
 use Rattle.bench.specs.declared.Bench.{Bench}
 use Rattle.bench.specs.BenchCalls.{set-cell-call, open-call, AnswerAt, load-plan-call, plan-outcome, plan-left-by, close-call, set-gain-call, load-bits-call, set-sync-call, clear-sync-call, start-call, Draw, draw-call, counted, left-by}

@@ -10,7 +10,7 @@ use lib.ListN.{length, replicate}
 use Rattle.complex.specs.declared.Complex.{Complex}
 use Rattle.complex.specs.Arithmetic.{𝟎}
 use Rattle.complex.specs.Buffers.{in-buffers}
-use Rattle.codes.specs.Refusals.{Answer, refused, gives, Refusal, _if_, _otherwise_}
+use Rattle.codes.specs.Refusals.{Answer, refused, gives, _if_, _otherwise_}
 use Rattle.slot.specs.Setup.{Channel, SyncSetup, Setup, is-some}
 use Rattle.slot.specs.Slot.{slot-length, bit-count, chip}
 use Rattle.bench.specs.declared.Channel.{Channel as Record}

@@ -9,7 +9,7 @@ use lib.IntN.{ℤ, pos, negℤ, _+ℤ_, _*ℤ_, negℤ-negℤ, *ℤ-comm, +ℤ-i
 use Rattle.complex.specs.declared.Complex.{Complex}
 use Rattle.complex.specs.Arithmetic.{real, 𝟏, _⊕_, _⊗_, conj, Σ<, Σℤ<, squared-size}
 use Rattle.complex.proofs.Integers.{*ℤ-negℤ}
-use Rattle.complex.proofs.Ring.{by-components, products, ⊗-assoc, 𝟎-⊗, ⊗-𝟎, 𝟏-⊗, ⊕-⊗, conj-⊗, conj-real, real-+ℤ, real-*ℤ}
+use Rattle.complex.proofs.Ring.{real-zero, by-components, products, ⊗-assoc, 𝟎-⊗, ⊗-𝟎, 𝟏-⊗, ⊕-⊗, conj-⊗, conj-real, real-+ℤ, real-*ℤ}
 use Rattle.complex.proofs.Sums.{Σ-cong, Σ-blocks, ⊗-Σ, real-Σ}
 use Rattle.codes.specs.Scrambling.{scrambling}
 use Rattle.codes.specs.Tree.{is-code, element}
@@ -22,7 +22,7 @@ use Rattle.orthogonality.proofs.Blocks.{Blocks, blocks}
 use Rattle.orthogonality.proofs.Codes.{code-parts, over-cong, ⊗-over, conj-over, Σ-over}
 use Rattle.orthogonality.proofs.DataReadings.{gained, sent, data-spread, own-sent}
 use Rattle.orthogonality.proofs.Spreading.{spread}
-use Rattle.orthogonality.proofs.Units.{real-zero, conj-zero, symbol-unit}
+use Rattle.orthogonality.proofs.Units.{conj-zero, symbol-unit}
 use Rattle.orthogonality.proofs.Unrelated.{Unrelated, EachOpen, Bits}
 
 -- ---- numbers

@@ -3,17 +3,16 @@ use mathlib.Core.Path.{_≡_, refl, sym, subst}
 use mathlib.Core.Bool.{true}
 use mathlib.Core.Logic.{_≢_}
 use mathlib.Core.Option.{Option, none, some}
-use Prim.Native.Nat.{ℕ, zero, suc, _+_, _*_, _/_, _%_, _^_, _<_, _≤_}
-use native.Mathlib.Nat.{le-refl, add-comm}
+use Prim.Native.Nat.{ℕ, zero, suc, _+_, _/_, _%_, _^_, _<_, _≤_}
+use native.Mathlib.Nat.{add-comm}
 use native.Mathlib.Omega.{arith}
 use lib.Dec.{lit≤}
 use lib.IntN.{pos}
 use Rattle.complex.specs.declared.Complex.{Complex}
 use Rattle.complex.specs.Arithmetic.{real, 𝟎, _⊗_, j^, Σ<}
 use Rattle.complex.specs.Fits.{Within, Both}
-use Rattle.complex.proofs.Components.{both-more, both-⊕, both-j^, both-sign}
-use Rattle.complex.proofs.Ring.{products, real-⊗}
-use Rattle.complex.proofs.Sizes.{within-mul}
+use Rattle.complex.proofs.Components.{gained-within, both-more, both-⊕, both-j^, both-sign}
+use Rattle.complex.proofs.Ring.{products}
 use Rattle.codes.specs.Scrambling.{v, scrambling}
 use Rattle.codes.specs.Tree.{is-code, element}
 use Rattle.codes.proofs.Leaves.{element-within}
@@ -42,14 +41,6 @@ over-within f k h =
     subst (Both (codes-sum k)) (sym (by-level f))
     (sum-within 5 (λ l. Σ< (2 ^ l) (f (2 ^ l))) (λ l. Σℕ< (2 ^ l) (k (2 ^ l)))
     (λ l m. sum-within (2 ^ l) (f (2 ^ l)) (k (2 ^ l)) (λ i g. h (2 ^ l) i)))
-
--- a gain times a value
-pub gained-within : {k : ℕ} {x : Complex} → Both k x → (g : ℕ) → Both (g * k) (real (pos g) ⊗ x)
-gained-within {k} {x} h g =
-    subst (Both (g * k)) (sym (real-⊗ (pos g) x)) (record { re = within-mul gain (h .re); im = within-mul gain (h .im) })
-  where
-    gain : Within g (pos g)
-    gain = record { size = le-refl g }
 
 -- the gain of a code, 0 where it is not open
 abbrev pub gain-of : Option Channel → ℕ

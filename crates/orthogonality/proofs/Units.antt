@@ -6,10 +6,9 @@ use native.Mathlib.Nat.{add-comm}
 use native.Mathlib.Omega.{arith}
 use borrow.Author.Tests.{le-ltb}
 use lib.Dec.{eqb}
-use lib.IntN.{pos}
 use Rattle.complex.specs.declared.Complex.{Complex}
 use Rattle.complex.specs.Arithmetic.{real, 𝟎, 𝟏, 𝐣, _⊗_, conj, j^}
-use Rattle.complex.proofs.Ring.{products, 𝟏-⊗, ⊗-𝟎, conj-⊗}
+use Rattle.complex.proofs.Ring.{real-zero, products, 𝟏-⊗, ⊗-𝟎, conj-⊗}
 use Rattle.codes.specs.Signs.{minus-if}
 use Rattle.codes.specs.Held.{packed, sign-bit}
 use Rattle.codes.specs.Scrambling.{row, v, scrambling}
@@ -54,10 +53,6 @@ symbol-unit (suc (suc (suc zero))) h = refl
 symbol-unit (suc (suc (suc (suc n)))) h = absurd (omega arith)
 
 -- ---- and 0
-pub real-zero : real (pos 0) ≡ 𝟎
-unfolding real 𝟎
-real-zero = refl
-
 pub conj-zero : conj 𝟎 ≡ 𝟎
 unfolding conj 𝟎
 conj-zero = refl

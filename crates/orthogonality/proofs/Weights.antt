@@ -7,7 +7,7 @@ use lib.Dec.{T, eqb}
 use lib.IntN.{ℤ, pos, _*ℤ_}
 use Rattle.complex.specs.declared.Complex.{Complex}
 use Rattle.complex.specs.Arithmetic.{real, 𝟎, _⊗_, Σ<, Σℤ<}
-use Rattle.complex.proofs.Ring.{⊗-𝟎}
+use Rattle.complex.proofs.Ring.{real-zero, ⊗-𝟎}
 use Rattle.complex.proofs.Sums.{Σ-𝟎, Σ-cong, Σ-one, Σ-swap, ⊗-Σ, real-Σ}
 use Rattle.codes.specs.Signs.{_at_}
 use Rattle.codes.specs.Range.{each}
@@ -15,7 +15,6 @@ use Rattle.codes.specs.Tree.{is-code, element, related, at-or-above}
 use Rattle.codes.proofs.Tests.{each-at, same, same→eq}
 use Rattle.codes.proofs.Leaves.{each-code}
 use Rattle.orthogonality.proofs.Codes.{at-every-code}
-use Rattle.orthogonality.proofs.Units.{real-zero}
 
 -- ---- the one test
 -- In a block of sixteen chips: the sum of what multiplies symbol m of code (Q, k) in reading r of code (Q′, k′)

@@ -1,14 +1,14 @@
 -- A list that is written part by part. Assumes nothing.
 use mathlib.Core.Path.{_≡_, refl, sym, ap, _∙_}
-use mathlib.Core.List.{List, [], _∷_, _++_, append-assoc, append-nil}
-use Prim.Native.Nat.{ℕ, zero, suc, _+_, _-_, _≤_, _<_}
-use native.Mathlib.Nat.{add-zero, add-suc, zero-add, le-refl}
+use mathlib.Core.List.{List, _++_, append-assoc}
+use Prim.Native.Nat.{ℕ, _+_, _-_, _≤_, _<_}
+use native.Mathlib.Nat.{zero-add, le-refl}
 use native.Mathlib.Omega.{arith}
 use lib.ListN.{length, take, drop, length-append, length-drop}
 use lib.Seq.{length-front, length-take-le, drop-at, drop-drop}
 use borrow.Rule.Slice.PartMut.{midOf, putMid, mid-len}
 use Rattle.complex.specs.Buffers.{listed, written}
-use Rattle.complex.proofs.Lists.{length-listed, take-written, all-written, listed-cong}
+use Rattle.complex.proofs.Lists.{length-listed, listed-++, take-written, all-written, listed-cong}
 
 -- what is lent of a buffer after its first a entries came back
 pub length-rest : {A : Type 0} (d ys : List A) (a : ℕ) → length ys ≡ length (take a d)
@@ -16,15 +16,6 @@ pub length-rest : {A : Type 0} (d ys : List A) (a : ℕ) → length ys ≡ lengt
 length-rest d ys a e = mid-len a _ (ys ++ drop a d) (le-refl _) ∙ ap (λ (n : ℕ). n - a) (length-front d ys a e)
 
 module _ {A : Type 0} (f : ℕ → A) where
-  -- a list in two parts
-  listed-++ : (m n : ℕ) → listed m f ++ listed n (λ i. f (m + i)) ≡ listed (m + n) f
-  unfolding listed
-  listed-++ m zero = append-nil (listed m f) ∙ ap (λ (k : ℕ). listed k f) (sym (add-zero m))
-  listed-++ m (suc n) =
-      sym (append-assoc (listed m f) (listed n (λ i. f (m + i))) (f (m + n) ∷ []))
-      ∙ ap (λ (l : List A). l ++ (f (m + n) ∷ [])) (listed-++ m n)
-      ∙ ap (λ (k : ℕ). listed k f) (sym (add-suc m n))
-
   -- writing keeps a buffer's length
   pub length-written : (d : List A) (n : ℕ) → n ≤ length d → length (written (listed n f) d) ≡ length d
   length-written d n h =
@@ -41,7 +32,7 @@ module _ {A : Type 0} (f : ℕ → A) where
       ap (drop a) e ∙ drop-at (listed a f) _ a (length-listed f a) ∙ ap (λ (n : ℕ). drop n d) (length-listed f a) in
       (λ j. (ap (take a) e ∙ take-written f d a) j ++ (new j ++ (ap (drop k) old ∙ drop-drop k a d) j))
       ∙ sym (append-assoc (listed a f) (listed k (λ i. f (a + i))) (drop (a + k) d))
-      ∙ (λ j. (listed-++ a k ∙ ap (λ (n : ℕ). listed n f) s) j ++ drop ((s ∙ sym (length-listed f b)) j) d)
+      ∙ (λ j. (listed-++ f a k ∙ ap (λ (n : ℕ). listed n f) s) j ++ drop ((s ∙ sym (length-listed f b)) j) d)
 
   -- every entry is written
   pub filled : (xs d : List A) (n : ℕ) → xs ≡ written (listed n f) d → n ≡ length d → xs ≡ listed (length d) f
