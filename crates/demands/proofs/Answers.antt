@@ -31,7 +31,8 @@ use Rattle.demands.specs.Reference.{Reference, fresh-reference, opened, 
 use Rattle.demands.specs.BenchSteps.{bench-step, called, planned, drawn as bench-drawn}
 use Rattle.demands.proofs.TableLaws.{view-cell-set, view-nothing-open, view-sync-set, view-sync-cleared, view-opened, view-closed, view-gain-set, view-bits-loaded}
 use Rattle.demands.proofs.Otherwise.{alike}
-use Rattle.demands.proofs.Valid.{Valid, gain-range, only-itself, cell-set-valid, opened-valid, closed-valid, gain-set-valid, bits-loaded-valid, sync-set-valid, sync-cleared-valid, nothing-open-valid, ValidReference, fresh-reference-valid}
+use Rattle.demands.specs.Valid.{Valid, ValidReference}
+use Rattle.demands.proofs.Valid.{gain-range, only-itself, cell-set-valid, opened-valid, closed-valid, gain-set-valid, bits-loaded-valid, sync-set-valid, sync-cleared-valid, nothing-open-valid, fresh-reference-valid}
 
 -- the reference model that a bench stands for
 abbrev pub reference-of : Bench → Reference
@@ -195,8 +196,7 @@ module _ (b : Bench) (v : ValidBench b) where
       (10 if under-way b ∷ []) tt (record { settings = b .settings; running = 1; sending = b .settings; position = 0 })
       (λ p. record { same = refl; valid = started-valid }))
 
-  -- "An accepted draw of length n gets as its count m, the smaller of n and 2,560 less the tally, and the chips from tally to tally+m-1 of the copy's
-  -- slot. The tally grows by m, and at 2,560 the copy goes."
+  -- An accepted draw gets m chips of the copy's slot, "the tally grows by m, and at 2,560 the copy goes".
   chips-drawn : (re im : List ℤ) (m : ℕ) → b .position + m ≤ slot-length → under-way b ≡ true
       → drawn (reference-of b) m (gives tt) ≡ seen (bench-drawn b re im (gives (draw-of b m)))
   chips-drawn re im m l e =
@@ -239,7 +239,8 @@ module _ (b : Bench) (v : ValidBench b) where
   step (load-plan plan) =
       let e = view-nothing-open (b .settings) in
       let w = nothing-open-valid (view (b .settings)) (own .valid) in
-      rw (← e) (plan-opened 0 (Tables.all-closed (b .settings)) plan (record { gains = refl; valid = subst Valid (sym e) w }))
+      subst (λ (s : Setup). Steps (by-plan (reference-of b) (records-opened 0 s plan)) (bench-step b (load-plan plan))) e
+      (plan-opened 0 (Tables.all-closed (b .settings)) plan (record { gains = refl; valid = subst Valid (sym e) w }))
   step (close Q k) = entry (close-refusals (view (b .settings)) Q k) (closing (b .settings) own Q k)
   step (set-gain Q k g) = entry (set-gain-refusals (view (b .settings)) Q k g) (setting-gain (b .settings) own Q k g)
   step (load-bits Q k bits) = entry (load-bits-refusals (view (b .settings)) Q k bits) (loading-bits (b .settings) own Q k bits)

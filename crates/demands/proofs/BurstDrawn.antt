@@ -23,7 +23,7 @@ use Rattle.demands.specs.Calls.{Call}
 use Rattle.demands.specs.Slots.{Slot, slots}
 use Rattle.demands.specs.Fields.{part, Drawn}
 use Rattle.demands.proofs.BurstReadBack.{burst-read-back}
-use Rattle.demands.proofs.Valid.{HeldSync, Valid}
+use Rattle.demands.specs.Valid.{HeldSync, Valid}
 use Rattle.demands.proofs.History.{in-order, slot-valid}
 use Rattle.demands.proofs.FieldReadings.{in-buffers-cong, drawn-part}
 

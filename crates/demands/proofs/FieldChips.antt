@@ -27,7 +27,7 @@ use Rattle.slot.specs.Slot.{burst-type, data-chip, sync-chip, chip}
 use Rattle.demands.specs.Fields.{Field, field-1, field-2, field-length, field-start, field-before, part}
 use Rattle.demands.proofs.BurstCorrelations.{chips}
 use Rattle.demands.proofs.BurstSizes.{chips-within}
-use Rattle.demands.proofs.Valid.{HeldSync, Valid}
+use Rattle.demands.specs.Valid.{HeldSync, Valid}
 use Rattle.orthogonality.proofs.Unrelated.{Unrelated}
 use Rattle.orthogonality.proofs.DataSizes.{data-within}
 

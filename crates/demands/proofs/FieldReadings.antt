@@ -1,13 +1,13 @@
 -- What read gives for a data field of a slot: demand 3's readings. Assumes nothing.
-use mathlib.Core.Path.{_≡_, refl, ap, ap₂, _∙_}
-use mathlib.Core.Bool.{true, false, _&&_}
+use mathlib.Core.Path.{_≡_, refl, ap, ap₂, _∙_, sym, subst}
+use mathlib.Core.Bool.{true, false, _&&_, not}
 use mathlib.Core.List.{List}
 use mathlib.Core.Option.{Option, none, some}
 use Prim.Native.Nat.{ℕ, _+_, _*_, _/_, _%_, _≤_, _<_}
 use native.Mathlib.Nat.{div-mul-le-self, mul-le-mul-right}
 use native.Mathlib.Omega.{arith}
-use borrow.Author.Tests.{lt-leb, le-ltb, eq-eqb, ne-eqb}
-use lib.Dec.{leb, ltb, lit≤}
+use borrow.Author.Tests.{not-true, lt-leb, le-ltb, eq-eqb, ne-eqb}
+use lib.Dec.{T, leb, ltb, lit≤}
 use lib.IntN.{ℤ, pos}
 use lib.ListN.{length}
 use Rattle.complex.specs.declared.Complex.{Complex}
@@ -22,15 +22,16 @@ use Rattle.codes.specs.Refusals.{gives}
 use Rattle.codes.specs.Scrambling.{scrambling, code-group}
 use Rattle.codes.specs.Tree.{is-code, element}
 use Rattle.sync_codes.specs.Burst.{burst-start}
+use Rattle.codes.proofs.Tests.{each-at, T-true}
 use Rattle.analyser.specs.Reading.{reading, read-call}
 use Rattle.analyser.proofs.Ranges.{none-outside}
 use Rattle.slot.specs.Setup.{SyncSetup, Setup, is-some}
 use Rattle.slot.specs.Slot.{data-chip, sync-chip, chip}
 use Rattle.demands.specs.Slots.{Slot, InOrder}
-use Rattle.demands.specs.Fields.{Field, field-length, field-start, field-before, part, Drawn, DrawnWhole, field-read, reading-count, Suffice, burst-at}
+use Rattle.demands.specs.Fields.{Field, field-length, field-start, field-before, part, Drawn, DrawnWhole, field-read, reading-count, Suffice, burst-at, no-burst}
 use Rattle.demands.proofs.Readings.{reading-additive}
 use Rattle.demands.proofs.Entries.{code-of}
-use Rattle.demands.proofs.Valid.{Valid}
+use Rattle.demands.specs.Valid.{Valid}
 use Rattle.demands.proofs.FieldChips.{part-listed, Readable, readable, field-sync, chip-in-field, chip-within}
 
 -- equal values, equal buffers
@@ -79,13 +80,23 @@ module _ (p Q k n : ℕ) (x : ℕ → Complex) (l : p < 128) (c : is-code Q k �
 
 -- ---- a field of a slot whose chips were drawn
 -- where no burst chip falls, the chip is 0
-pub no-sync-chip : (s : Setup) (x : ℕ) → burst-at s x ≡ false → sync-chip (s .cell) (s .sync) x ≡ 𝟎
+no-sync-chip : (s : Setup) (x : ℕ) → burst-at s x ≡ false → sync-chip (s .cell) (s .sync) x ≡ 𝟎
 unfolding sync-chip
 no-sync-chip s x e = go (s .sync) e
   where
     go : (y : Option SyncSetup) → (let start = burst-start (code-group (s .cell)) in is-some y && (leb start x && ltb x (start + 256))) ≡ false → sync-chip (s .cell) y x ≡ 𝟎
     go none e = refl
     go (some y) e = rw e
+
+pub quiet-chip : (s : Setup) (x n : ℕ) → no-burst s x n ≡ true → (i : ℕ) → i < n → sync-chip (s .cell) (s .sync) (x + i) ≡ 𝟎
+quiet-chip s x n e i l = no-sync-chip s (x + i) (not-true _ (T-true _ (each-at n (λ i. not (burst-at s (x + i))) (subst T (sym e) tt) i l)))
+
+-- what the data of a field reads, and what the burst reads
+abbrev pub of-data : Setup → Field → ℕ → ℕ → ℕ → Complex
+of-data s f Q k = reading (s .cell) Q k (data-chip s (field-before s f))
+
+abbrev pub of-burst : Setup → Field → ℕ → ℕ → ℕ → Complex
+of-burst s f Q k = reading (s .cell) Q k (field-sync s f)
 
 module _ (slot : Slot) (v : Valid (slot .settings)) (o : InOrder slot) where
   abbrev s : Setup
@@ -108,27 +119,20 @@ module _ (slot : Slot) (v : Valid (slot .settings)) (o : InOrder slot) where
       ∙ value-in-buffers (o .count) (chip s) x (omega (arith, ap (λ (w : Values). length (w .re)) e, length-listed (λ i. chip s i .re) (o .count)))
 
   module _ (f : Field) (Q k : ℕ) (c : is-code Q k ≡ true) where
-    -- what the data reads, and what the burst reads
-    abbrev of-data : ℕ → Complex
-    of-data = reading (s .cell) Q k (data-chip s (field-before s f))
-
-    abbrev of-burst : ℕ → Complex
-    of-burst = reading (s .cell) Q k (field-sync s f)
-
     abbrev count : ℕ
     count = reading-count s f Q
 
-    parts : (n : ℕ) → n < count → reading (s .cell) Q k (λ q. chip s (field-start s f + q)) n ≡ of-data n ⊕ of-burst n
+    parts : (n : ℕ) → n < count → reading (s .cell) Q k (λ q. chip s (field-start s f + q)) n ≡ of-data s f Q k n ⊕ of-burst s f Q k n
     parts n l =
         field-cong (s .cell) Q k (field-length s f) _ (λ q. data-chip s (field-before s f) q ⊕ field-sync s f q) (chip-in-field s f) n l
         ∙ reading-additive (s .cell) Q k (data-chip s (field-before s f)) (field-sync s f) n
 
     module _ (m m′ : ℕ) (w : Suffice s f Q m m′) where
       -- read accepts every field that was drawn whole, and burst and data add up
-      pub reads : DrawnWhole slot f → field-read slot f Q k m m′ ≡ gives (in-buffers count (λ n. of-data n ⊕ of-burst n))
+      pub reads : DrawnWhole slot f → field-read slot f Q k m m′ ≡ gives (in-buffers count (λ n. of-data s f Q k n ⊕ of-burst s f Q k n))
       reads d =
           let p = drawn-part (field-start s f) (field-length s f) d in
           ap₂ (λ (re im : List ℤ). read-call (s .cell) Q k re im m m′) (p .0) (p .1)
           ∙ read-gives (s .cell) Q k (field-length s f) (λ q. chip s (field-start s f + q)) (v .cell) c (readable s (v .type) f)
           (λ q l. chip-within s v _) m m′ (w .re) (w .im)
-          ∙ ap gives (in-buffers-cong count _ (λ n. of-data n ⊕ of-burst n) parts)
+          ∙ ap gives (in-buffers-cong count _ (λ n. of-data s f Q k n ⊕ of-burst s f Q k n) parts)

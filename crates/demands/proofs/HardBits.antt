@@ -27,9 +27,9 @@ use Rattle.analyser.specs.Hardening.{hard-pair, hard-bit, harden-call}
 use Rattle.bench.proofs.Accepted.{Code}
 use Rattle.demands.specs.Calls.{Call}
 use Rattle.demands.specs.Slots.{Slot, slots}
-use Rattle.demands.specs.Fields.{Field, field-1, field-2, field-length, field-start, field-before, part, DrawnWhole, field-read, reading-count, Suffice, no-burst, field-bits}
+use Rattle.demands.specs.Fields.{Field, field-1, field-2, field-length, field-start, field-before, part, DrawnWhole, field-read, reading-count, Suffice, no-burst, field-bits, AllBits}
 use Rattle.demands.proofs.Entries.{code-of}
-use Rattle.demands.proofs.Valid.{Held, Valid}
+use Rattle.demands.specs.Valid.{Held, Valid}
 use Rattle.demands.proofs.History.{slot-valid}
 use Rattle.demands.proofs.ReadingTheorems.{own-reading, is-code-of}
 use Rattle.orthogonality.proofs.Hardened.{hardened}
@@ -50,7 +50,7 @@ module _ (s : Setup) (Q : ℕ) (c : Channel) (t : among (s .type) (1 ∷ 2 ∷ 3
   enough field-1 = omega (arith, split (s .type) Q t q, count, zero-div Q)
   enough field-2 = omega (arith, split (s .type) Q t q, count)
 
-  pub both-fields : field-bits s field-1 Q c ++ field-bits s field-2 Q c ≡ c .bits
+  both-fields : field-bits s field-1 Q c ++ field-bits s field-2 Q c ≡ c .bits
   unfolding Split
   both-fields =
       let n = 2 * (field-length s field-1 / Q) in
@@ -79,7 +79,7 @@ module _ (Q g : ℕ) (some-Q : 0 < Q) (some-g : 0 < g) (bits : List ℕ) (h : (i
 no-sync : (s : Setup) → s .sync ≡ none → (x n : ℕ) → no-burst s x n ≡ true
 no-sync s e x n = each-all n _ (λ i l. rw e)
 
--- The bits of each field that was drawn whole, and of both fields together (`both-fields`).
+-- of each field that was drawn whole
 pub hard-bits : (calls : List (Call (List ℤ))) (slot : Slot) → List·Memᴰ slot (slots calls) → (f : Field) → DrawnWhole slot f
     → (Q k : ℕ) (c : Channel) (m m′ n : ℕ) (r : Values)
     → (let s = slot .settings in s .sync ≡ none → s .channel Q k ≡ some c → Suffice s f Q m m′ → 2 * reading-count s f Q ≤ n
@@ -125,3 +125,22 @@ hard-bits calls slot i f whole Q k c m m′ n r quiet e w enough-bytes reads =
         ∙ ap (λ (y : Complex). cond (eqb (b % 2) 0) (hard-pair y / 2) (hard-pair y % 2)) (value-in-buffers N own (b / 2) (omega arith))
         ∙ own-bit Q (c .gain) (factor-range Q (code .factor) .0) (h .above-0) (c .bits) (h .bit) (field-before s f / Q) b
         ∙ sym (getD-take (2 * N) (drop (2 * (field-before s f / Q)) (c .bits)) b 0 g ∙ getD-drop (2 * (field-before s f / Q)) (c .bits) b 0))
+
+-- of both fields
+pub all-hard-bits : (calls : List (Call (List ℤ))) (slot : Slot) → List·Memᴰ slot (slots calls) → ((f : Field) → DrawnWhole slot f)
+    → (Q k : ℕ) (c : Channel) (m m′ n : Field → ℕ) (r : Field → Values)
+    → (let s = slot .settings in s .sync ≡ none → s .channel Q k ≡ some c → ((f : Field) → Suffice s f Q (m f) (m′ f)) → ((f : Field) → 2 * reading-count s f Q ≤ n f)
+    → ((f : Field) → field-read slot f Q k (m f) (m′ f) ≡ gives (r f)) → AllBits r n c)
+all-hard-bits calls slot i whole Q k c m m′ n r quiet e w enough-bytes reads =
+    let s = slot .settings in
+    let v = slot-valid calls slot i in
+    record {
+      first = field-bits s field-1 Q c;
+      second = field-bits s field-2 Q c;
+      first-is = of field-1;
+      second-is = of field-2;
+      all = both-fields s Q c (v .type) (code-of Q k (is-code-of s v field-1 Q k c e) .factor) (v .channel Q k c e .count);
+    }
+  where
+    of : (f : Field) → harden-call (r f .re) (r f .im) (n f) ≡ gives (field-bits (slot .settings) f Q c)
+    of f = hard-bits calls slot i f (whole f) Q k c (m f) (m′ f) (n f) (r f) quiet e (w f) (enough-bytes f) (reads f)

@@ -22,7 +22,7 @@ use Rattle.demands.specs.Calls.{Call, set-cell, open-code, load-plan, cl
 use Rattle.demands.specs.Reference.{Reference, fresh-reference, cell-set, opened, closed, gain-set, bits-loaded, with-sync, plan-loaded, with-settings, by-entry, by-plan, drawn, reference-step, fed}
 use Rattle.demands.specs.BenchSteps.{bench-step}
 use Rattle.demands.specs.Slots.{Slot, extended, is-start, noted, slots-from, slots, InOrder, NothingLeft}
-use Rattle.demands.proofs.Valid.{Valid, ValidReference}
+use Rattle.demands.specs.Valid.{Valid, ValidReference}
 use Rattle.demands.proofs.Answers.{reference-of, seen, ValidBench, agrees, bench-step-valid, fresh-same, fresh-bench-valid, answers, reached, bench-valid, reference-valid}
 
 -- ---- what holds of each accepted start
@@ -191,8 +191,7 @@ draw-11 s (some c) n v [] h a b = absurd (Option·some-ne-none c h)
 draw-11 s (some c) n v (x ∷ past) h a b =
     (λ e. absurd (not-11 (model s (some c) n) _ (not (eqb a b)) e), λ e. absurd (omega (arith, e, out (h .0), v .below refl)))
 
--- Demand 3: a draw is refused 11 exactly when "no start was accepted yet or all 2,560 chips of the last accepted one are out". "Saying 11 before chip
--- 2,559 has gone out contradicts demand 3."
+-- Demand 3: a draw is refused 11 exactly when "no start was accepted yet or all 2,560 chips of the last accepted one are out".
 pub refused-11 : (calls : List (Call (List ℤ))) (re im : List ℤ)
     → (bench-step (left-after bench-step fresh calls) (draw re im) .told ≡ refused-by 11) ↔ NothingLeft (slots calls)
 unfolding fed

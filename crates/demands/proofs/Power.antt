@@ -1,28 +1,25 @@
 -- Demand 3's power: "Where none falls, counted from a field's start, the squared components of each 16 data chips add up to 16 times the sum of the
 -- squared gains." Assumes nothing.
-use mathlib.Core.Path.{_≡_, sym, ap, subst, _∙_}
-use mathlib.Core.Bool.{true, not}
+use mathlib.Core.Path.{_≡_, sym, ap, _∙_}
+use mathlib.Core.Bool.{true}
 use mathlib.Core.List.{List, List·Memᴰ}
 use Prim.Native.Nat.{ℕ, _+_, _*_, _≤_, _<_}
 use native.Mathlib.Omega.{arith}
-use borrow.Author.Tests.{not-true}
-use lib.Dec.{T}
 use lib.IntN.{ℤ}
 use Rattle.complex.specs.declared.Complex.{Complex}
 use Rattle.complex.specs.Arithmetic.{squared-size, _⊕_}
 use Rattle.complex.specs.Buffers.{value}
 use Rattle.complex.proofs.Ring.{⊕-𝟎}
 use Rattle.complex.proofs.Sums.{Σℤ-cong}
-use Rattle.codes.proofs.Tests.{each-at, T-true}
 use Rattle.slot.specs.Setup.{Setup}
-use Rattle.slot.specs.Slot.{data-chip, chip}
+use Rattle.slot.specs.Slot.{data-chip, sync-chip, chip}
 use Rattle.demands.specs.Calls.{Call}
 use Rattle.demands.specs.Slots.{Slot, slots}
-use Rattle.demands.specs.Fields.{Field, field-length, field-start, field-before, Drawn, burst-at, no-burst, power-of-16, power-due}
-use Rattle.demands.proofs.Valid.{Valid}
+use Rattle.demands.specs.Fields.{Field, field-length, field-start, field-before, Drawn, no-burst, power-of-16, power-due}
+use Rattle.demands.specs.Valid.{Valid}
 use Rattle.demands.proofs.History.{in-order, slot-valid}
 use Rattle.demands.proofs.FieldChips.{chip-in-field, unrelated}
-use Rattle.demands.proofs.FieldReadings.{no-sync-chip, drawn-chip}
+use Rattle.demands.proofs.FieldReadings.{quiet-chip, drawn-chip}
 use Rattle.orthogonality.proofs.DataPower.{data-power}
 
 -- The 16 chips from chip 16m of a field on, all drawn, no burst chip among them; the field need not be drawn whole.
@@ -41,11 +38,11 @@ power calls slot i f m inside drawn quiet =
 
     chip-is : (n : ℕ) → n < 16 → value (slot .chips .re) (slot .chips .im) (field-start s f + 16 * m + n) ≡ data-chip s (field-before s f) (m * 16 + n)
     chip-is n l =
-        let x = field-start s f + 16 * m + n in
-        let e : x ≡ field-start s f + (m * 16 + n) = omega arith in
-        drawn-chip slot v (in-order calls slot i) x (omega arith)
+        let x = field-start s f + 16 * m in
+        let e : x + n ≡ field-start s f + (m * 16 + n) = omega arith in
+        drawn-chip slot v (in-order calls slot i) (x + n) (omega arith)
         ∙ ap (chip s) e
         ∙ chip-in-field s f (m * 16 + n) (omega arith)
         ∙ ap (λ (z : Complex). data-chip s (field-before s f) (m * 16 + n) ⊕ z)
-        (no-sync-chip s _ (ap (burst-at s) (sym e) ∙ not-true _ (T-true _ (each-at 16 (λ n. not (burst-at s (field-start s f + 16 * m + n))) (subst T (sym quiet) tt) n l))))
+        (ap (sync-chip (s .cell) (s .sync)) (sym e) ∙ quiet-chip s x 16 quiet n l)
         ∙ ⊕-𝟎 _

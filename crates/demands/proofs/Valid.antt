@@ -9,45 +9,21 @@ use Prim.Native.Nat.{ℕ, zero, suc, _≤_, _<_}
 use native.Mathlib.Omega.{arith}
 use borrow.Author.Tests.{leb-false, eqb-true, not-false}
 use lib.Dec.{T, eqb, eqb→eq, leb, leb→le}
-use lib.ListN.{length, getD, replicate, length-replicate}
+use lib.ListN.{getD, replicate, length-replicate}
 use mir.Facts.{and-yes}
 use Rattle.codes.specs.Tree.{among, is-code, at-or-above, related}
 use Rattle.codes.proofs.Refused.{Passed}
 use Rattle.codes.proofs.Tests.{neither}
 use Rattle.sync_codes.specs.Allocation.{one-or-two, is-frame-and-half}
 use Rattle.slot.specs.Setup.{Channel, SyncSetup, Setup, is-some, is-open}
-use Rattle.slot.specs.Slot.{slot-length, bit-count}
+use Rattle.slot.specs.Slot.{bit-count}
 use Rattle.bench.specs.BenchCalls.{bad-gain, related-to-open, set-cell-refusals, open-refusals, close-refusals, set-gain-refusals, load-bits-refusals, set-sync-refusals}
 use Rattle.bench.proofs.Accepted.{good-code}
 use Rattle.bench.proofs.Loading.{is-bit}
-use Rattle.demands.specs.Reference.{Reference, cell-set, fresh-reference, with-channel, opened, closed, changed, gain-set, bits-loaded, with-sync, nothing-open}
+use Rattle.demands.specs.Reference.{cell-set, fresh-reference, with-channel, opened, closed, changed, gain-set, bits-loaded, with-sync, nothing-open}
+use Rattle.demands.specs.Valid.{Held, HeldSync, Valid, ValidReference}
 use Rattle.demands.proofs.Entries.{code-of, no-code-passes}
 use Rattle.demands.proofs.TableLaws.{OnlyItself}
-
--- an open code's gain and bits in burst type t: "gain 1 to 4095", "2(F1+F2)/Q bits", "one byte a bit"
-pub record Held (t Q : ℕ) (c : Channel) : Type 0 where
-  pub above-0 : 1 ≤ c .gain
-  pub at-most : c .gain ≤ 4095
-  pub count : length (c .bits) ≡ bit-count t Q
-  pub bit : (i : ℕ) → getD (c .bits) i 0 ≤ 1
-
--- a sync burst in burst type t: what set sync does not refuse
-pub record HeldSync (t : ℕ) (y : SyncSetup) : Type 0 where
-  pub type : t ≡ 1
-  pub case : T (one-or-two (y .case))
-  pub frame-and-half : T (is-frame-and-half (y .case) (y .frame) (y .half))
-  pub P-above-0 : 1 ≤ y .gP
-  pub P-at-most : y .gP ≤ 4095
-  pub S-above-0 : 1 ≤ y .gS
-  pub S-at-most : y .gS ≤ 4095
-
-pub record Valid (s : Setup) : Type 0 where
-  pub cell : s .cell < 128
-  pub type : among (s .type) (1 ∷ 2 ∷ 3 ∷ []) ≡ true
-  pub code : (Q k : ℕ) → is-open s Q k ≡ true → is-code Q k ≡ true
-  pub apart : (Q k Q′ k′ : ℕ) → is-open s Q k ≡ true → is-open s Q′ k′ ≡ true → related Q′ k′ Q k ≡ true → (Q′ ≡ Q) × (k′ ≡ k)
-  pub channel : (Q k : ℕ) (c : Channel) → s .channel Q k ≡ some c → Held (s .type) Q c
-  pub sync : (y : SyncSetup) → s .sync ≡ some y → HeldSync (s .type) y
 
 -- ---- settings with nothing open
 none-open-valid : (p t : ℕ) (y : Option SyncSetup) → p < 128 → among t (1 ∷ 2 ∷ 3 ∷ []) ≡ true → ((z : SyncSetup) → y ≡ some z → HeldSync t z)
@@ -211,13 +187,6 @@ module _ (s : Setup) (v : Valid s) where
 
   pub sync-cleared-valid : Valid (with-sync s none)
   sync-cleared-valid = with-sync-valid none (no-sync-held (s .type))
-
--- ---- the reference model
-pub record ValidReference (r : Reference) : Type 0 where
-  pub settings : Valid (r .settings)
-  pub sending : (s : Setup) → r .sending ≡ some s → Valid s
-  pub at-most : r .sent ≤ slot-length
-  pub below : is-some (r .sending) ≡ true → r .sent < slot-length
 
 pub fresh-reference-valid : ValidReference fresh-reference
 fresh-reference-valid =

@@ -2,8 +2,8 @@
 use lib.IntN.{ℤ, pos}
 use Prim.Native.Nat.{ℕ, _+_, _*_, _/_, _≤_}
 use mathlib.Core.Path.{_≡_}
-use mathlib.Core.Bool.{Bool, false, not, _&&_}
-use mathlib.Core.List.{List}
+use mathlib.Core.Bool.{Bool, true, not, _&&_}
+use mathlib.Core.List.{List, _++_}
 use mathlib.Core.Option.{none, some}
 use lib.Dec.{leb, ltb}
 use lib.ListN.{length, take, drop}
@@ -12,14 +12,16 @@ use Rattle.complex.specs.Arithmetic.{real, 𝟎, _⊕_, _⊗_, Σℤ<, squared-
 use Rattle.complex.specs.Buffers.{value, Values, in-buffers}
 use Rattle.codes.specs.Range.{each}
 use Rattle.codes.specs.Refusals.{Answer, gives}
+use Rattle.codes.specs.Tree.{related}
 use Rattle.codes.specs.Scrambling.{code-group}
 use Rattle.sync_codes.specs.Burst.{burst-start}
 use Rattle.modulation.specs.Symbols.{pair, symbol}
 use Rattle.slot.specs.declared.parts.Parts.{Parts}
-use Rattle.slot.specs.Setup.{Channel, Setup, is-some}
+use Rattle.slot.specs.Setup.{Channel, Setup, is-some, is-open}
 use Rattle.slot.specs.Slot.{burst-type, sync-chip, chip}
-use Rattle.bench.specs.BenchCalls.{related-to-open}
+use Rattle.bench.specs.BenchCalls.{some-code}
 use Rattle.analyser.specs.Reading.{read-call}
+use Rattle.analyser.specs.Hardening.{harden-call}
 use Rattle.orthogonality.specs.Gains.{squared-gains}
 use Rattle.demands.specs.Reference.{with-sync}
 use Rattle.demands.specs.Slots.{Slot}
@@ -59,7 +61,7 @@ part at n l = take n (drop at l)
 abbrev pub field-part : {A : Type 0} → Setup → Field → List A → List A
 field-part s f l = part (field-start s f) (field-length s f) l
 
--- the chips from chip x to chip x + n - 1 of the slot are drawn
+-- the chips from chip x to chip x + n - 1 of the slot are drawn: they come in order from chip 0 on (`in-order`), so it is enough to count them
 abbrev pub Drawn : Slot → ℕ → ℕ → Type 0
 Drawn slot x n = x + n ≤ length (slot .chips .re)
 
@@ -67,8 +69,8 @@ Drawn slot x n = x + n ≤ length (slot .chips .re)
 abbrev pub DrawnWhole : Slot → Field → Type 0
 DrawnWhole slot f = let s = slot .settings in Drawn slot (field-start s f) (field-length s f)
 
--- "It is read from two buffers that hold them in order, for any code, with answer buffers that suffice", of m and m′ entries: `with that start's
--- cell parameter`
+-- "It is read from two buffers that hold them in order, for any code, with answer buffers that suffice", here of m and m′ entries, and "with that
+-- start's cell parameter".
 abbrev pub field-read : Slot → Field → ℕ → ℕ → ℕ → ℕ → Answer Values
 field-read slot f Q k m m′ =
     let s = slot .settings in
@@ -88,6 +90,10 @@ own-symbol s f Q c n = symbol (pair (c .bits) (field-before s f / Q + n))
 -- "each reading of a code open at that start is its spreading factor times its gain times its own symbol"
 abbrev pub own-readings : Setup → Field → ℕ → Channel → Values
 own-readings s f Q c = in-buffers (reading-count s f Q) (λ n. real (pos Q) ⊗ real (pos (c .gain)) ⊗ own-symbol s f Q c n)
+
+-- "a code unrelated to all of those": no open code is related to it
+abbrev pub unrelated : Setup → ℕ → ℕ → Bool
+unrelated s Q k = not (some-code (λ Q′ k′. is-open s Q′ k′ && related Q′ k′ Q k))
 
 -- "and each of a code unrelated to all of those is zero"
 abbrev pub zero-readings : Setup → Field → ℕ → Values
@@ -127,10 +133,11 @@ pub record BurstAdds (slot : Slot) (f : Field) (Q k m m′ : ℕ) : Type 0 where
   pub sum : field-read slot f Q k m m′ ≡ gives (added (reading-count (slot .settings) f Q) quiet own)
   -- where the code is open, and where it is unrelated to all open ones
   pub open-code : (c : Channel) → slot .settings .channel Q k ≡ some c → quiet ≡ own-readings (slot .settings) f Q c
-  pub unrelated-code : related-to-open (slot .settings) Q k ≡ false → quiet ≡ zero-readings (slot .settings) f Q
+  pub unrelated-code : unrelated (slot .settings) Q k ≡ true → quiet ≡ zero-readings (slot .settings) f Q
 
 -- ---- power, hard bits
--- "the squared components of each 16 data chips add up to": those from chip x of the slot on, as they were drawn
+-- "the squared components of each 16 data chips add up to": those from chip x of the slot on, as they were drawn. "A stretch of 16 data chips counts
+-- once all 16 are drawn".
 abbrev pub power-of-16 : Slot → ℕ → ℤ
 power-of-16 slot x = Σℤ< 16 (λ i. squared-size (value (slot .chips .re) (slot .chips .im) (x + i)))
 
@@ -138,6 +145,15 @@ power-of-16 slot x = Σℤ< 16 (λ i. squared-size (value (slot .chips .re) (slo
 abbrev pub power-due : Setup → ℤ
 power-due s = pos (16 * squared-gains s)
 
--- the bits of a channel that a field sends
+-- the bits of a channel that a field sends: field 1's come first, then field 2's
 abbrev pub field-bits : Setup → Field → ℕ → Channel → List ℕ
 field-bits s f Q c = part (2 * (field-before s f / Q)) (2 * reading-count s f Q) (c .bits)
+
+-- "yields the bits it held when that slot started": the hard bits of both fields, one after the other; for each, r is what read
+-- gave and n the number of bytes lent
+pub record AllBits (r : Field → Values) (n : Field → ℕ) (c : Channel) : Type 0 where
+  pub first : List ℕ
+  pub second : List ℕ
+  pub first-is : harden-call (r field-1 .re) (r field-1 .im) (n field-1) ≡ gives first
+  pub second-is : harden-call (r field-2 .re) (r field-2 .im) (n field-2) ≡ gives second
+  pub all : first ++ second ≡ c .bits

@@ -36,7 +36,7 @@ infix 30 _is_
 abbrev pub _is_ : List Value → List Value → Instance
 v is w = record { given = v; stated = w }
 
--- n and -n as real, j and -j as imaginary values
+-- x, and y times j, as complex values
 abbrev pub re : ℤ → Complex
 re x = x +j pos 0
 
@@ -63,7 +63,7 @@ abbrev pub chips-of : Setup → Value
 chips-of s = complex (listed 4 (chip s))
 
 abbrev pub readings-of : Setup → ℕ → ℕ → ℕ → Value
-readings-of s Q k n = complex (listed n (reading 8 Q k (chip s)))
+readings-of s Q k n = complex (listed n (reading (s .cell) Q k (chip s)))
 
 abbrev pub three : ℕ → Complex → ℕ → Complex → ℕ → Complex → Value
 three i u j v k w = codes (record { first = with-unit i u; second = with-unit j v; marker = with-unit k w })

@@ -3,4 +3,5 @@ pub mod Reference
 pub mod BenchSteps
 pub mod Slots
 pub mod Fields
+pub mod Valid
 pub mod Instances

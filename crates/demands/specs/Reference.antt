@@ -17,7 +17,7 @@ use Rattle.bench.specs.declared.Channel.{Channel as Record}
 use Rattle.bench.specs.BenchCalls.{set-cell-refusals, open-refusals, AnswerAt, refused-at, loads, close-refusals, set-gain-refusals, load-bits-refusals, set-sync-refusals}
 use Rattle.demands.specs.Calls.{Call, set-cell, open-code, load-plan, close, set-gain, load-bits, set-sync, clear-sync, start, draw, accepted, refused-by, refused-record, drew, Step}
 
--- It has settings, a copy of settings or none, and a tally;
+-- It has settings, a copy of settings or none (`sending`), and a tally (`sent`);
 pub record Reference : Type 0 where
   pub settings : Setup
   pub sending : Option Setup
@@ -65,7 +65,8 @@ with-sync s y = record { cell = s .cell; type = s .type; channel = s .channel; s
 abbrev pub nothing-open : Setup → Setup
 nothing-open s = record { cell = s .cell; type = s .type; channel = λ Q k. none; sync = s .sync }
 
--- Load plan: record after record, the first of them at `place`, each opened on what the earlier ones left
+-- Load plan refuses with 3, 4, 5, 6 as open would for the first record that fails, taken in order against earlier records only, and that record's
+-- place. Places count from 0, bits start as all 0. Record after record, the first of them at `place`, each opened on what the earlier ones left:
 unfoldable pub records-opened : ℕ → Setup → List Record → AnswerAt Setup
 records-opened place s [] = loads s
 records-opened place s (c ∷ cs) =
@@ -98,7 +99,7 @@ abbrev pub started : Reference → Answer (Unit {0}) → Step Reference
 started r (refused n) = record { told = refused-by n; next = r }
 started r (gives a) = record { told = accepted; next = record { settings = r .settings; sending = some (r .settings); sent = 0 } }
 
--- chip x of the copy's slot, numbered from 0
+-- chip x of the copy's slot, numbered from 0; an accepted draw has a copy
 abbrev pub copy-chip : Option Setup → ℕ → Complex
 copy-chip none x = 𝟎
 copy-chip (some s) x = chip s x

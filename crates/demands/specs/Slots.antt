@@ -20,7 +20,7 @@ pub record Slot : Type 0 where
   pub settings : Setup
   pub chips : Values
 
--- an accepted start makes a copy, and no chip is drawn yet
+-- an accepted start makes a copy (so there is one), and no chip is drawn yet
 abbrev pub begun : Option Setup → List Slot → List Slot
 begun none past = past
 begun (some copy) past = record { settings = copy; chips = record { re = []; im = [] } } ∷ past
