@@ -6,6 +6,7 @@
 
 test:
 	@rt fmt --check
+	@tests/contract-names.sh
 	@tests/compiler-refusals.sh
 	@rt ci
 

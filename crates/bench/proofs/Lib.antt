@@ -2,3 +2,5 @@ pub mod Opened
 pub mod Accepted
 pub mod Pairs
 pub mod Loading
+pub mod Plans
+pub mod Walks

@@ -1,3 +1,4 @@
 pub mod Changes
 pub mod BenchCalls
 pub mod Held
+pub mod Taken

@@ -2,7 +2,7 @@
 // new bench. Each call takes any numbers and any bench; where it refuses, it answers document 01's number
 // and hands back the bench that it was given.
 ghost use mathlib.Core.Path.{_≡_};
-ghost use lib.ListN.{length};
+ghost use lib.ListN.{length, take};
 ghost use Rattle.complex.specs.Buffers.{written};
 ghost use Rattle.codes.specs.Refusals.{after, gives, outcome, refused};
 ghost use Rattle.codes.specs.Tree.{is-spreading-factor};
@@ -11,7 +11,7 @@ ghost use mathlib.Core.List.{[]};
 ghost use Prim.Native.Nat.{_<_, _≤_};
 ghost use lib.Dec.{eqb, leb};
 ghost use Rattle.bench.specs.Changes.{no-sync, with-bits, with-gain, with-settings};
-ghost use Rattle.bench.specs.BenchCalls.{close-call, clear-sync-call, counted, draw-call, fresh, fresh-settings, left-by, load-bits-call, open-call, set-cell-call, set-gain-call, set-sync-call, start-call, told-call, told-draw};
+ghost use Rattle.bench.specs.BenchCalls.{close-call, clear-sync-call, counted, draw-call, fresh, fresh-settings, left-by, load-bits-call, load-plan-call, open-call, plan-left-by, plan-outcome, set-cell-call, set-gain-call, set-sync-call, start-call, told-call, told-draw, told-plan};
 use codes::CellParameter;
 use slot::Settings;
 use slot::Sync;
@@ -19,6 +19,7 @@ use slot::field;
 
 mod refusals;
 mod tables;
+mod taken;
 
 // `settings` are what the calls change. While `running` is not 0 a slot is under way: `sending` is the copy of the settings made at its
 // start, and `position` is how many of its chips are out.
@@ -57,6 +58,12 @@ pub enum PlanAnswer {
 pub struct Planned {
     pub answer: PlanAnswer,
     pub bench: Bench,
+}
+
+// The records of a plan by value. At most 16 codes can be open together, so in a longer plan one of the first 17 records fails.
+#[repr(C)]
+pub struct PlanRecords {
+    pub records: [Channel; 17],
 }
 
 // Of an accepted draw, how many chips it wrote.
@@ -185,6 +192,39 @@ impl Bench {
             answer: CallAnswer::Accepted,
             bench: self.with_code(q, k, gain, true),
         }
+    }
+
+    // Replaces all open codes by those of the plan, with bits all 0, or changes nothing. Refuses 3, 4, 5, 6 as open would for the first
+    // record that fails, taken in order against earlier records only, with that record's place.
+    pub fn load_plan(mut self, plan: &[Channel]) -> Planned
+        ensures answer { λ r. ⌜ told-plan (r .answer) ≡ plan-outcome (load-plan-call self (now (plan .entry))) ⌝ }
+        ensures bench { λ r. ⌜ r .bench ≡ plan-left-by (load-plan-call self (now (plan .entry))) self ⌝ }
+    {
+        let mut taken = taken::none(self);
+        let mut i = 0;
+        while i < plan.len() {
+            taken = taken.with_record(i, plan[i]);
+            i = i + 1;
+        }
+        taken.settled(self)
+    }
+
+    // Load plan of the first n records.
+    fn load_first(self, plan: PlanRecords, n: usize) -> Planned
+        requires { ⌜ n ≤ 17 ⌝ }
+        ensures answer { λ r. ⌜ told-plan (r .answer) ≡ plan-outcome (load-plan-call self (take n (plan .records))) ⌝ }
+        ensures bench { λ r. ⌜ r .bench ≡ plan-left-by (load-plan-call self (take n (plan .records))) self ⌝ }
+    {
+        let records = plan.records;
+        self.load_plan(&records[..n])
+    }
+
+    // Load plan for callers that hold the records by value: of the first `count`, or of all 17 where `count` is larger.
+    pub fn load_records(self, plan: PlanRecords, count: usize) -> Planned
+        ensures answer { λ r. ⌜ told-plan (r .answer) ≡ plan-outcome (load-plan-call self (take count (plan .records))) ⌝ }
+        ensures bench { λ r. ⌜ r .bench ≡ plan-left-by (load-plan-call self (take count (plan .records))) self ⌝ }
+    {
+        self.load_first(plan, field::smaller(count, 17))
     }
 
     // Refuses 3; 4; 7 code not open.

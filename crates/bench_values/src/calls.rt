@@ -1,16 +1,19 @@
 // The calls that a script has, and their answers.
 use crate::buffers;
 use crate::buffers::Buffer;
+use crate::plans;
 use crate::words;
 use crate::words::Row;
 use bench::Answered;
 use bench::Bench;
 use bench::CallAnswer;
 use bench::DrawAnswer;
+use bench::PlanAnswer;
 use code_text::print;
 use codes::CellParameter;
 
-// Prints the answer of the line's call and hands back the bench after it. The fifth byte of a line tells all calls apart but `draw` and `open`.
+// Prints the answer of the line's call and hands back the bench after it. The fifth byte of a line tells all calls apart but `draw` and `open`, and
+// the two that load.
 pub fn answer(b: Bench, line: &[u8]) -> Bench {
     let x = words::numbers(line);
     match words::byte(line, 4) {
@@ -18,7 +21,13 @@ pub fn answer(b: Bench, line: &[u8]) -> Bench {
         b'c' => told(b.set_cell(CellParameter(x.0), x.1)),
         b'e' => told(b.close(x.0, x.1)),
         b'g' => told(b.set_gain(x.0, x.1, x.2)),
-        b'-' => load_bits(b, x),
+        b'-' => {
+            if words::byte(line, 5) == b'p' {
+                load_plan(b, line)
+            } else {
+                load_bits(b, x)
+            }
+        }
         b's' => told(b.set_sync(x.0, x.1, x.2, x.3, x.4)),
         b'r' => told(b.clear_sync()),
         b't' => told(b.start()),
@@ -55,6 +64,22 @@ fn refused(n: u32) {
 fn load_bits(b: Bench, x: Row) -> Bench {
     let bytes = buffers::bits(x.3, x.4);
     told(b.load_bits(x.0, x.1, words::part(&bytes, 0, x.2 as usize)))
+}
+
+// A plan of any length: its first 17 records decide.
+fn load_plan(b: Bench, line: &[u8]) -> Bench {
+    let r = b.load_records(plans::records(line), words::count(line));
+    let a = r.answer;
+    match a {
+        PlanAnswer::Loaded => print::text(b"ok"),
+        PlanAnswer::Refused(n, place) => {
+            refused(n);
+            print::text(b" place ");
+            io::print_decimal(1, place as u64);
+        }
+    }
+    print::byte(b'\n');
+    r.bench
 }
 
 // A draw into buffers of n and m entries. The digests are of all of them, also past the chips.

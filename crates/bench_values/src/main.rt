@@ -4,6 +4,7 @@ use bench::Bench;
 
 mod buffers;
 mod calls;
+mod plans;
 mod words;
 
 fn main() {

@@ -19,3 +19,4 @@ pub mod ReadingTheorems
 pub mod Power
 pub mod HardBits
 pub mod BurstDrawn
+pub mod Contracts

@@ -7,6 +7,4 @@ use Rattle.bench_values.proofs.words.number.Tie as tie
 pub number-spec : {M : Type 1} → statement M
 number-spec =
     tie.close
-    (tie.spec (λ _ _ _ _ _ _ _ _ _. Unit {0}) (λ _ _ _ _ _ i-end _ _ i. i-end - i) (λ c. search needs)
-    (λ c κs. search needs) (λ c κs. search needs) (λ c κs. search needs) (λ c. search needs)
-    (λ c. search needs) (λ c. search needs) (λ c. search needs))
+    (tie.spec (λ _ _ _ _ _ _ _ _ _ _ _ _. Unit {0}) (λ _ _ _ _ _ _ _ i-end _ _ _ i. i-end - i) (λ c. search needs) (λ c κs. search needs) (λ c κs. search needs) (λ c κs. search needs) (λ c κs. search needs) (λ c. search needs) (λ c. search needs) (λ c. search needs) (λ c. search needs))
