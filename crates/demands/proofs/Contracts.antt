@@ -61,41 +61,45 @@ planned r = record { told = tell-plan (told-plan (r .answer)); next = r .bench }
 abbrev pub drawn : Drawn → List ℤ → List ℤ → Step Bench
 drawn r re im = record { told = tell-draw (told-draw (r .answer)) re im; next = r .bench }
 
+-- the clause of the answer and the clause of the bench make a step
+as-step : {t t′ : Answer (Unit {0})} {n n′ : Bench} → t ≡ t′ → n ≡ n′ → _≡_ {A = Step Bench} (record { told = tell t; next = n }) (record { told = tell t′; next = n′ })
+as-step p q = λ i. record { told = tell (p i); next = q i }
+
 -- x .0 and x .1 are the clauses `answer` and `bench`; e is what the parameters are when the function returns
 module _ (b : Bench) (r : Answered) where
   pub set-cell-meets : (p t : ℕ) (e : _) → set-cell-contract.Learnt tt (b, (record { 0 = p }, (t, tt))) r e → answered r ≡ bench-step b (set-cell p t)
   unfolding bench-step
-  set-cell-meets p t e x = λ i. record { told = tell (x .0 i); next = x .1 i }
+  set-cell-meets p t e x = as-step (x .0) (x .1)
 
   pub open-meets : (Q k g : ℕ) (e : _) → open-contract.Learnt tt (b, (Q, (k, (g, tt)))) r e → answered r ≡ bench-step b (open-code Q k g)
   unfolding bench-step
-  open-meets Q k g e x = λ i. record { told = tell (x .0 i); next = x .1 i }
+  open-meets Q k g e x = as-step (x .0) (x .1)
 
   pub close-meets : (Q k : ℕ) (e : _) → close-contract.Learnt tt (b, (Q, (k, tt))) r e → answered r ≡ bench-step b (close Q k)
   unfolding bench-step
-  close-meets Q k e x = λ i. record { told = tell (x .0 i); next = x .1 i }
+  close-meets Q k e x = as-step (x .0) (x .1)
 
   pub set-gain-meets : (Q k g : ℕ) (e : _) → set-gain-contract.Learnt tt (b, (Q, (k, (g, tt)))) r e → answered r ≡ bench-step b (set-gain Q k g)
   unfolding bench-step
-  set-gain-meets Q k g e x = λ i. record { told = tell (x .0 i); next = x .1 i }
+  set-gain-meets Q k g e x = as-step (x .0) (x .1)
 
   pub load-bits-meets : (κs : Lfts 1) (Q k : ℕ) (bits : RefT (List ℕ)) (e : _) → load-bits-contract.Learnt κs (b, (Q, (k, (bits, tt)))) r e
       → answered r ≡ bench-step b (load-bits Q k (now bits))
   unfolding bench-step
-  load-bits-meets κs Q k bits e x = λ i. record { told = tell (x .0 i); next = x .1 i }
+  load-bits-meets κs Q k bits e x = as-step (x .0) (x .1)
 
   pub set-sync-meets : (case frame half gP gS : ℕ) (e : _) → set-sync-contract.Learnt tt (b, (case, (frame, (half, (gP, (gS, tt)))))) r e
       → answered r ≡ bench-step b (set-sync case frame half gP gS)
   unfolding bench-step
-  set-sync-meets case frame half gP gS e x = λ i. record { told = tell (x .0 i); next = x .1 i }
+  set-sync-meets case frame half gP gS e x = as-step (x .0) (x .1)
 
   pub clear-sync-meets : (e : _) → clear-sync-contract.Learnt tt (b, tt) r e → answered r ≡ bench-step b clear-sync
   unfolding bench-step
-  clear-sync-meets e x = λ i. record { told = tell (x .0 i); next = x .1 i }
+  clear-sync-meets e x = as-step (x .0) (x .1)
 
   pub start-meets : (e : _) → start-contract.Learnt tt (b, tt) r e → answered r ≡ bench-step b start
   unfolding bench-step
-  start-meets e x = λ i. record { told = tell (x .0 i); next = x .1 i }
+  start-meets e x = as-step (x .0) (x .1)
 
 -- a draw's buffers are `now` of the two parameters, before and after it
 pub draw-meets : (b : Bench) (r : Drawn) (κs : Lfts 2) (re im : RefT (List ℤ)) (e : _) → draw-contract.Learnt κs (b, (re, (im, tt))) r e
