@@ -1,6 +1,5 @@
 // Read, of fields of noise and of fields at one level.
 use analyser::ReadAnswer;
-use code_text::complement;
 use codes::CellParameter;
 use signals::Chips;
 use signals::IM;
@@ -8,6 +7,7 @@ use signals::accepted;
 use signals::buffers;
 use signals::form;
 use signals::form::Row;
+use text::complement;
 
 pub fn all() {
     for p in 0..128 {

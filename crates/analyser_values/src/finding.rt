@@ -9,6 +9,7 @@ use signals::form::Row;
 use signals::kinds::Kind;
 use sync_analyser::FindAnswer;
 use sync_analyser::Peak;
+use text::complement::not_negative_wide;
 
 pub fn all() {
     let list =
@@ -56,14 +57,6 @@ fn found(peak: Peak) {
     print::text(b"at ");
     io::print_decimal(1, peak.start as u64);
     print::text(b" size ");
-    io::print_decimal(1, not_negative(peak.size));
+    io::print_decimal(1, not_negative_wide(peak.size));
     print::byte(b'\n')
-}
-
-// x, or 0 where x is negative.
-fn not_negative(x: i64) -> u64 {
-    if x < 0 {
-        return 0;
-    }
-    x as u64
 }

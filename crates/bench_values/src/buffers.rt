@@ -1,6 +1,6 @@
 // The buffers of a draw and the bytes of a load.
-use code_text::complement::signed;
-use code_text::complement::word;
+use text::complement::signed;
+use text::complement::word;
 
 // How many entries a buffer of a draw has at most, and how many bytes a load.
 const ROOM: usize = 3000;

@@ -1,6 +1,6 @@
 // Text on standard output.
-use crate::complement::not_negative;
 use complex::Complex;
+use text::complement::not_negative;
 
 pub fn byte(b: u8) {
     io::write_all(1, &[b]);

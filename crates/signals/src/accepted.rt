@@ -1,7 +1,7 @@
 // The rest of a line, where a read is accepted.
 use crate::form;
 use crate::form::Row;
-use code_text::complement;
+use text::complement;
 
 // At an edge the digest alone, else also the first and the last reading.
 pub fn line(x: Row, edge: bool, outre: &[i32], outim: &[i32]) {

@@ -1,6 +1,6 @@
 // Lines with numbers in them.
-use code_text::complement;
 use code_text::print;
+use text::complement;
 
 // Numbers for a line or a call.
 pub struct Row(

@@ -1,10 +1,10 @@
 // What a program needs to try the analyser: chips with noise and sync bursts, digests of them, and lines with numbers in them.
 // A signed number is computed with as its two's complement, modulo 2^32.
-use code_text::complement::signed;
-use code_text::complement::word;
 use codes::CodeGroup;
 use sync_codes::Allocated;
 use sync_codes::ModulatedCode;
+use text::complement::signed;
+use text::complement::word;
 
 pub mod accepted;
 pub mod buffers;

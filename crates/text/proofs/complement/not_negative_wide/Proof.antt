@@ -1,4 +1,4 @@
--- `not_negative` is safe: past the test x is not negative, so the cast keeps it. Assumes nothing.
+-- `not_negative_wide` is safe: past the test x is not negative, so the cast keeps it. Assumes nothing.
 use native.Mathlib.Nat.{lt-of-le-of-lt}
 use borrow.Author.Needs.{needs}
 use lib.Dec.{lit<}
@@ -6,8 +6,8 @@ use lib.Signed.{ltZ-no, yes-nonNeg, natAbs-le}
 use mir.Syntax.{w64}
 use mir.Val.{toZ, ofZ}
 use mir.Facts.{toZ-ofZ}
-use Rattle.analyser_values.proofs.finding.not_negative.Statement.{statement}
-use Rattle.analyser_values.proofs.finding.not_negative.Tie as tie
+use Rattle.text.proofs.complement.not_negative_wide.Statement.{statement}
+use Rattle.text.proofs.complement.not_negative_wide.Tie as tie
 
 cast-result : tie.Need-cast-result
 cast-result c =
@@ -17,5 +17,5 @@ cast-result c =
       rw (toZ-ofZ fits) (record { fits = lt-of-le-of-lt (natAbs-le x (fits .sfits)) (lit< tt) }),
     )
 
-pub not-negative-spec : {M : Type 1} → statement M
-not-negative-spec = tie.close (tie.spec (λ c. search needs) cast-result (λ c. search needs))
+pub not-negative-wide-spec : {M : Type 1} → statement M
+not-negative-wide-spec = tie.close (tie.spec (λ c. search needs) cast-result (λ c. search needs))

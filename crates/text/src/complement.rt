@@ -8,6 +8,14 @@ pub fn not_negative(x: i32) -> u32 {
     x as u32
 }
 
+// The same in 64 bits.
+pub fn not_negative_wide(x: i64) -> u64 {
+    if x < 0 {
+        return 0;
+    }
+    x as u64
+}
+
 // The two's complement. `!x` is -x - 1, and fits whatever x is.
 pub fn word(x: i32) -> u32 {
     if x < 0 {

@@ -6,8 +6,8 @@ use lib.Signed.{ltZ-no, yes-nonNeg, natAbs-le}
 use mir.Syntax.{w32}
 use mir.Val.{toZ, ofZ}
 use mir.Facts.{toZ-ofZ}
-use Rattle.code_text.proofs.complement.not_negative.Statement.{statement}
-use Rattle.code_text.proofs.complement.not_negative.Tie as tie
+use Rattle.text.proofs.complement.not_negative.Statement.{statement}
+use Rattle.text.proofs.complement.not_negative.Tie as tie
 
 cast-result : tie.Need-cast-result
 cast-result c =

@@ -1,0 +1,10 @@
+-- `digits` is safe, and ends: with each turn fewer digits are left. Assumes nothing.
+use Prim.Native.Nat.{_-_}
+use borrow.Author.Needs.{needs}
+use Rattle.bench_lines.proofs.bits.digits.Statement.{statement}
+use Rattle.bench_lines.proofs.bits.digits.Tie as tie
+
+pub digits-spec : {M : Type 1} → statement M
+digits-spec =
+    tie.close
+    (tie.spec (λ _ _ _ _ _ _ _ _. Unit {0}) (λ _ _ _ _ i-end _ _ i. i-end - i) (λ c. search needs) (λ c. search needs) (λ c κs. search needs) (λ c. search needs) (λ c. search needs) (λ c. search needs) (λ c. search needs) (λ c. search needs) (λ c. search needs) (λ c. search needs))

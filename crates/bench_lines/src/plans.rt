@@ -1,0 +1,87 @@
+// The records of a plan, one word each: Q,K,G.
+use bench::Channel;
+use bench::PlanRecords;
+use script::faults::Fault;
+use text::numbers;
+use text::numbers::Natural;
+use text::words;
+
+// How many records there are, and the first 17 of them; or what is wrong.
+pub struct Plan {
+    pub fault: Fault,
+    pub count: usize,
+    pub first: PlanRecords,
+}
+
+fn channel(q: u32, k: u32, gain: u32) -> Channel {
+    Channel { q, k, gain }
+}
+
+// The records of a line at or after `at`.
+pub fn records(line: &[u8], at: usize) -> Plan {
+    let mut all = [channel(0, 0, 0); 17];
+    let mut fault = Fault::None;
+    let mut from = at;
+    let mut count: usize = 0;
+    while count < line.len() {
+        let w = words::next(line, from);
+        if w.from == w.to {
+            break;
+        }
+        match to_record(words::part(line, w.from, w.to)) {
+            Record::Is(c) => {
+                if count < 17 {
+                    all[count] = c;
+                }
+            }
+            Record::Bad => {
+                fault = Fault::NoRecord(w);
+                break;
+            }
+        }
+        count += 1;
+        from = w.to;
+    }
+    Plan {
+        fault,
+        count,
+        first: PlanRecords { records: all },
+    }
+}
+
+enum Record {
+    Is(Channel),
+    Bad,
+}
+
+fn to_record(w: &[u8]) -> Record {
+    let one = comma(w, 0);
+    let two = comma(w, std::num::wrapping_add_usize(one, 1));
+    let q = field(w, 0, one);
+    let k = field(w, std::num::wrapping_add_usize(one, 1), two);
+    let gain = field(w, std::num::wrapping_add_usize(two, 1), w.len());
+    match q {
+        Natural::Bad => Record::Bad,
+        Natural::Is(x) => match k {
+            Natural::Bad => Record::Bad,
+            Natural::Is(y) => match gain {
+                Natural::Bad => Record::Bad,
+                Natural::Is(z) => Record::Is(channel(x, y, z)),
+            },
+        },
+    }
+}
+
+fn field(w: &[u8], from: usize, to: usize) -> Natural {
+    numbers::to_natural(words::part(w, from, to))
+}
+
+// The index of the first comma of w at or after `from`, or where w ends.
+fn comma(w: &[u8], from: usize) -> usize {
+    for i in from..w.len() {
+        if w[i] == b',' {
+            return i;
+        }
+    }
+    w.len()
+}

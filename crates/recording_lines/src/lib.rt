@@ -1,0 +1,48 @@
+// The calls of a line that make a recording of chips and read it.
+use bench::Bench;
+use script::faults::Fault;
+
+pub mod drawing;
+pub mod reading;
+pub mod recording;
+pub mod sync;
+
+// How many chips a recording holds.
+pub use script::faults::CHIPS;
+
+// Past the chips of a full recording there is room for those of one draw, at most 2,560, or of one line, at most 16,384: they are
+// put there first, and counted once it is known that they fit.
+pub const ROOM: usize = 54784;
+
+pub type Chips = [i32; ROOM];
+
+// The most readings that a read gives.
+pub const READINGS: usize = 1104;
+
+pub type Readings = [i32; READINGS];
+
+// What a line finds and leaves: the bench, how many chips the recording has, how many readings the last accepted read gave.
+pub struct Session {
+    pub bench: Bench,
+    pub chips: usize,
+    pub readings: usize,
+}
+
+// What a line leaves, how many bytes of the answers are used, and what was wrong with it.
+pub struct Done {
+    pub session: Session,
+    pub n: usize,
+    pub fault: Fault,
+}
+
+pub fn answered(session: Session, n: usize) -> Done {
+    Done {
+        session,
+        n,
+        fault: Fault::None,
+    }
+}
+
+pub fn no_call(session: Session, n: usize, fault: Fault) -> Done {
+    Done { session, n, fault }
+}

@@ -1,0 +1,112 @@
+// Readings of a part of the recording, and their hard bits.
+use crate::Chips;
+use crate::Done;
+use crate::READINGS;
+use crate::Readings;
+use crate::Session;
+use crate::answered;
+use crate::no_call;
+use crate::recording::outside;
+use crate::recording::part;
+use crate::recording::stretch;
+use crate::recording::values;
+use analyser::HardenAnswer;
+use analyser::ReadAnswer;
+use bench_lines::refused;
+use codes::CellParameter;
+use script::faults::Fault;
+use text::answers;
+use text::answers::Answers;
+
+// What read tells of the numbers P Q K FROM COUNT. The readings go to yre and yim, which stay where it refuses.
+pub fn read(
+    s: Session,
+    x: [u32; 5],
+    out: &mut Answers,
+    n: usize,
+    re: &mut Chips,
+    im: &mut Chips,
+    yre: &mut Readings,
+    yim: &mut Readings,
+) -> Done {
+    let fault = outside(s.chips, x[3], x[4]);
+    match fault {
+        Fault::None => {
+            let a = analyser::read(
+                CellParameter(x[0]),
+                x[1],
+                x[2],
+                stretch(re, x[3], x[4]),
+                stretch(im, x[3], x[4]),
+                yre,
+                yim,
+            );
+            match a {
+                ReadAnswer::Read => {
+                    let mut next = s;
+                    next.readings = quotient(x[4], x[1]);
+                    answered(next, all(out, n, yre, yim, next.readings))
+                }
+                ReadAnswer::Refused(number) => {
+                    let m = refused(out, n, number);
+                    answered(s, answers::byte(out, m, b'\n'))
+                }
+            }
+        }
+        _ => no_call(s, n, fault),
+    }
+}
+
+// How many readings of spreading factor q a stretch of chips has.
+fn quotient(chips: u32, q: u32) -> usize {
+    if q == 0 {
+        return 0;
+    }
+    long(chips / q)
+}
+
+fn long(x: u32) -> usize {
+    x as usize
+}
+
+// The first `count` readings.
+fn all(out: &mut Answers, n: usize, yre: &[i32], yim: &[i32], count: usize) -> usize {
+    let mut m = answers::counted(out, n, b"ok ", count as u64);
+    m = answers::byte(out, m, b'\n');
+    values(out, m, part(yre, 0, count), part(yim, 0, count))
+}
+
+// The hard bits of the first `count` readings, at most 1,104.
+fn bits(yre: &[i32], yim: &[i32], count: usize) -> [u8; 2208] {
+    let mut bytes = [0u8; 2208];
+    analyser::harden(part(yre, 0, count), part(yim, 0, count), &mut bytes);
+    bytes
+}
+
+fn digits(out: &mut Answers, n: usize, bytes: &[u8], count: usize) -> usize {
+    let mut m = answers::counted(out, n, b"ok ", count as u64);
+    m = answers::byte(out, m, b'\n');
+    for i in 0..count {
+        if i >= bytes.len() {
+            break;
+        }
+        let b = if bytes[i] == 0 { b'0' } else { b'1' };
+        m = answers::byte(out, m, b);
+    }
+    answers::byte(out, m, b'\n')
+}
+
+pub fn harden(
+    s: Session,
+    out: &mut Answers,
+    n: usize,
+    yre: &mut Readings,
+    yim: &mut Readings,
+) -> Done {
+    if s.readings == 0 {
+        return no_call(s, n, Fault::NoReadings);
+    }
+    let bytes = bits(yre, yim, s.readings);
+    let count = std::num::wrapping_add_usize(s.readings, s.readings);
+    answered(s, digits(out, n, &bytes, count))
+}

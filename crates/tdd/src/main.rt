@@ -1,0 +1,98 @@
+// The program tdd: runs scripts of bench and analyser calls. docs/TDD.md is its manual.
+use scripts::Ending;
+
+mod calls;
+mod scripts;
+
+// The forms of the calls, which `help` lists; the numbers of their rows are in calls.rt.
+fn main() {
+    program(
+        b"set-cell P T                    # cell parameter P, 0 to 127, burst type T, 1 to 3; closes every code, clears sync
+open Q K G                      # code (Q, K), Q 1, 2, 4, 8 or 16, K below Q, with gain G, 1 to 4095, and bits all 0
+load-plan [Q,K,G]...            # these codes in place of all open ones, or no change
+close Q K                       # code (Q, K) is open no more
+set-gain Q K G                  # a new gain for an open code, which keeps its bits
+load-bits Q K [BITS]            # the bits of an open code, field 1's first, as one word of digits
+set-sync CASE FRAME HALF GP GS  # the cell's sync burst: case 1 or 2, frame 1 or 2, half 0 or 1, gains 1 to 4095
+clear-sync                      # no sync burst
+start                           # a slot of 2560 chips with the settings as they are now
+draw N [M]                      # the next N chips of the slot, to the end of the recording
+record RE IM [RE IM]...         # chips of your own, to the end of the recording
+erase                           # empties the recording
+show FROM COUNT                 # COUNT chips of the recording from chip FROM on, the first chip is 0
+read P Q K FROM COUNT           # what code (Q, K) reads in these chips with cell parameter P
+harden                          # the bits of what the last accepted read gave
+read-sync CASE FROM COUNT       # what the sync burst in these 256 chips was sent for
+find FROM COUNT                 # where in these chips the primary sync code is strongest, and how strong
+help                            # this list
+",
+    );
+}
+
+// The scripts that the arguments name, or else standard input.
+fn program(forms: &[u8]) {
+    let count = os::arg_count();
+    if count < 2 {
+        ended(scripts::answer_all(0, forms), b"standard input");
+        return;
+    }
+    for i in 1..count {
+        if !answer_file(i, count > 2, forms) {
+            break;
+        }
+    }
+}
+
+// Says what failed, and why, on standard error.
+fn fail(what: &[u8], name: &[u8]) {
+    io::write_all(2, what);
+    os::fail(name);
+}
+
+// Tells how a script's run ended, and answers whether the next script can be run.
+fn ended(ending: Ending, name: &[u8]) -> bool {
+    match ending {
+        Ending::Whole => true,
+        Ending::NotRead => {
+            fail(b"tdd: cannot read ", name);
+            true
+        }
+        Ending::NotWritten => {
+            fail(b"tdd: cannot write ", b"the answers");
+            false
+        }
+    }
+}
+
+// Answers the script that argument i names, and whether the next one can be run. Where there are several it says first which.
+fn answer_file(i: usize, several: bool, forms: &[u8]) -> bool {
+    let mut path = io::buffer();
+    let n = os::arg(i, &mut path);
+    if os::errno() != 0 {
+        fail(b"tdd: cannot open ", b"a script");
+        return true;
+    }
+    if several {
+        if !heading(&path[..n]) {
+            return ended(Ending::NotWritten, b"");
+        }
+    }
+    let fd = os::open_read(&path[..n]);
+    if fd < 0 {
+        fail(b"tdd: cannot open ", &path[..n]);
+        return true;
+    }
+    let goes_on = ended(scripts::answer_all(fd, forms), &path[..n]);
+    libc::close(fd);
+    goes_on
+}
+
+fn heading(name: &[u8]) -> bool {
+    if !io::write_all(1, b"==> ") {
+        return false;
+    }
+    if !io::write_all(1, name) {
+        return false;
+    }
+    io::write_all(1, b" <==\n")
+}

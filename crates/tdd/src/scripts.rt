@@ -1,0 +1,122 @@
+// A script from its first line to its last.
+use crate::calls;
+use crate::calls::Answered;
+use bench::Bench;
+use recording_lines::Chips;
+use recording_lines::READINGS;
+use recording_lines::ROOM;
+use recording_lines::Readings;
+use recording_lines::Session;
+use script::faults;
+use script::faults::Fault;
+use text::answers;
+use text::answers::Answers;
+use text::answers::FAILED;
+use text::lines;
+use text::lines::Buffer;
+use text::lines::Step;
+use text::words;
+
+// How a run ended; where a read or a write failed, errno says why.
+pub enum Ending {
+    Whole,
+    NotRead,
+    NotWritten,
+}
+
+// Answers line number `at`, buf[from..to].
+fn answer_line(
+    forms: &[u8],
+    buf: &[u8],
+    from: usize,
+    to: usize,
+    at: u64,
+    s: Session,
+    out: &mut Answers,
+    n: usize,
+    re: &mut Chips,
+    im: &mut Chips,
+    yre: &mut Readings,
+    yim: &mut Readings,
+) -> Answered {
+    let line = words::part(buf, from, to);
+    calls::answer(forms, line, at, s, out, n, re, im, yre, yim)
+}
+
+// Answers each line of the input. A proved loop has to end, and nothing says that the input does, so the loop counts its turns
+// down, from a number that no run uses up.
+fn run(
+    fd: i32,
+    forms: &[u8],
+    buf: &mut Buffer,
+    out: &mut Answers,
+    re: &mut Chips,
+    im: &mut Chips,
+    yre: &mut Readings,
+    yim: &mut Readings,
+) -> Ending {
+    let mut session = Session {
+        bench: Bench::fresh(),
+        chips: 0,
+        readings: 0,
+    };
+    let mut input = lines::first(fd);
+    let mut n: usize = 0;
+    let mut at: u64 = 1;
+    let mut turns = u64::MAX;
+    while turns > 0 {
+        turns -= 1;
+        match lines::advance(buf, input) {
+            Step::Line(from, to, next) => {
+                input = next;
+                let done = answer_line(forms, buf, from, to, at, session, out, n, re, im, yre, yim);
+                session = done.session;
+                n = done.n;
+                at = std::num::wrapping_add_u64(at, 1);
+            }
+            Step::Long(next) => {
+                input = next;
+                n = faults::tell(out, n, Fault::Long, b"", at, b"", 0);
+                at = std::num::wrapping_add_u64(at, 1);
+            }
+            Step::Short(next) => {
+                n = answers::flush(out, n);
+                if n == FAILED {
+                    return Ending::NotWritten;
+                }
+                let filled = lines::fill(buf, next);
+                if filled.failed {
+                    return Ending::NotRead;
+                }
+                input = filled.input;
+            }
+            Step::End => {
+                if answers::flush(out, n) == FAILED {
+                    return Ending::NotWritten;
+                }
+                return Ending::Whole;
+            }
+        }
+    }
+    Ending::Whole
+}
+
+// Answers a script with buffers and a recording of its own: some 600 KB of the stack.
+pub fn answer_all(fd: i32, forms: &[u8]) -> Ending {
+    let mut buf = [0u8; lines::ROOM];
+    let mut out = [0u8; answers::ROOM];
+    let mut re = [0i32; ROOM];
+    let mut im = [0i32; ROOM];
+    let mut yre = [0i32; READINGS];
+    let mut yim = [0i32; READINGS];
+    run(
+        fd,
+        forms,
+        &mut buf,
+        &mut out,
+        &mut re,
+        &mut im,
+        &mut yre,
+        &mut yim,
+    )
+}

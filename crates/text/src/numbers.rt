@@ -1,0 +1,82 @@
+// Decimal numbers of 32 bits.
+ghost use Prim.Native.Nat.{_≤_};
+
+pub enum Natural {
+    Is(u32),
+    Bad,
+}
+
+pub enum Component {
+    Is(i32),
+    Bad,
+}
+
+// The digit's value, or 10.
+pub fn digit(b: u8) -> u64
+    ensures { λ r. ⌜ r ≤ 10 ⌝ }
+{
+    if b < b'0' {
+        return 10;
+    }
+    if b > b'9' {
+        return 10;
+    }
+    (b - b'0') as u64
+}
+
+// The number that the digits of w write.
+pub fn to_natural(w: &[u8]) -> Natural {
+    if w.len() == 0 {
+        return Natural::Bad;
+    }
+    let mut v: u64 = 0;
+    for i in 0..w.len() {
+        let d = digit(w[i]);
+        if d > 9 {
+            return Natural::Bad;
+        }
+        v = v * 10 + d;
+        if v > 4294967295 {
+            return Natural::Bad;
+        }
+    }
+    Natural::Is(v as u32)
+}
+
+fn plus(v: u32) -> Component {
+    if v > 2147483647 {
+        return Component::Bad;
+    }
+    Component::Is(v as i32)
+}
+
+// `!x` is -x - 1, and fits whatever x is.
+fn minus(v: u32) -> Component {
+    if v == 0 {
+        return Component::Is(0);
+    }
+    if v > 2147483648 {
+        return Component::Bad;
+    }
+    Component::Is(!((v - 1) as i32))
+}
+
+fn negated(w: &[u8]) -> Component {
+    match to_natural(w) {
+        Natural::Is(v) => minus(v),
+        Natural::Bad => Component::Bad,
+    }
+}
+
+// The number that w writes, with `-` before its digits where it is negative.
+pub fn to_component(w: &[u8]) -> Component {
+    if w.len() > 0 {
+        if w[0] == b'-' {
+            return negated(&w[1..]);
+        }
+    }
+    match to_natural(w) {
+        Natural::Is(v) => plus(v),
+        Natural::Bad => Component::Bad,
+    }
+}
