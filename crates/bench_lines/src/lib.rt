@@ -10,6 +10,7 @@ use text::answers::Answers;
 use text::words;
 
 mod bits;
+pub mod drawing;
 mod plans;
 
 // What a line leaves: the bench, how many bytes of the answers are used, and what was wrong with it.

@@ -1,45 +1,20 @@
-// Draws of any length, to the end of the recording.
+// Draws, to the end of the recording.
 use crate::Chips;
 use crate::Done;
+use crate::ROOM;
 use crate::Session;
 use crate::answered;
 use crate::no_call;
 use crate::recording::unfit;
 use bench::Bench;
 use bench::DrawAnswer;
-use bench::Drawn;
+use bench_lines::drawing::draw_any;
 use bench_lines::refused;
 use script::arguments;
 use script::arguments::Argument;
 use script::faults::Fault;
 use text::answers;
 use text::answers::Answers;
-
-// The part of s with `count` entries from `from` on, or nothing where there is no such part.
-fn room(s: &mut [i32], from: usize, count: usize) -> &mut [i32] {
-    let to = std::num::wrapping_add_usize(from, count);
-    if from > to {
-        return &mut s[0..0];
-    }
-    if to > s.len() {
-        return &mut s[0..0];
-    }
-    &mut s[from..to]
-}
-
-fn smaller(x: usize, y: usize) -> usize {
-    if x < y { x } else { y }
-}
-
-// Draws into buffers of n and m entries, which stand in re and im from `at` on. A slot has 2,560 chips, so as many entries do
-// for any longer buffers; where n and m differ, no chip is written, and any two different lengths do.
-fn draw_any(b: Bench, n: u32, m: u32, re: &mut [i32], im: &mut [i32], at: usize) -> Drawn {
-    if n != m {
-        return b.draw(room(re, 0, 0), room(im, 0, 1));
-    }
-    let count = smaller(n as usize, 2560);
-    b.draw(room(re, at, count), room(im, at, count))
-}
 
 // The lengths of the two buffers; or what is wrong.
 enum Lengths {
@@ -62,8 +37,53 @@ fn two_lengths(first: u32, line: &[u8], at: usize) -> Lengths {
     }
 }
 
-// The bench before the draw stays where the chips do not fit.
-fn drew(s: Session, d: Drawn, out: &mut Answers, n: usize) -> Done {
+// Puts the first `count` entries of `drawn` into s from `at` on.
+fn append(s: &mut Chips, at: usize, drawn: &[i32], count: usize) {
+    let mut k = at;
+    for i in 0..count {
+        if i >= drawn.len() {
+            break;
+        }
+        if k >= ROOM {
+            break;
+        }
+        s[k] = drawn[i];
+        k += 1;
+    }
+}
+
+// After an accepted draw of `count` chips, which left the bench b. Where they do not fit, the bench before the draw stays.
+fn drew(s: Session, b: Bench, count: usize, out: &mut Answers, n: usize) -> Done {
+    let to = std::num::wrapping_add_usize(s.chips, count);
+    let fault = unfit(s.chips, to);
+    match fault {
+        Fault::None => {
+            let m = answers::counted(out, n, b"ok ", count as u64);
+            let next = Session {
+                bench: b,
+                chips: to,
+                readings: s.readings,
+            };
+            answered(next, answers::byte(out, m, b'\n'))
+        }
+        _ => no_call(s, n, fault),
+    }
+}
+
+// A draw into buffers of two lengths.
+fn draw_both(
+    s: Session,
+    one: u32,
+    two: u32,
+    out: &mut Answers,
+    n: usize,
+    re: &mut Chips,
+    im: &mut Chips,
+) -> Done {
+    let mut slotre = [0i32; 2560];
+    let mut slotim = [0i32; 2560];
+    let b = s.bench;
+    let d = draw_any(b, one, two, &mut slotre, &mut slotim);
     let a = d.answer;
     match a {
         DrawAnswer::Refused(number) => {
@@ -71,21 +91,10 @@ fn drew(s: Session, d: Drawn, out: &mut Answers, n: usize) -> Done {
             answered(s, answers::byte(out, m, b'\n'))
         }
         DrawAnswer::Drew(count) => {
-            let to = std::num::wrapping_add_usize(s.chips, count);
-            let fault = unfit(s.chips, to);
-            match fault {
-                Fault::None => {
-                    let m = answers::counted(out, n, b"ok ", count as u64);
-                    let bench = d.bench;
-                    let next = Session {
-                        bench,
-                        chips: to,
-                        readings: s.readings,
-                    };
-                    answered(next, answers::byte(out, m, b'\n'))
-                }
-                _ => no_call(s, n, fault),
-            }
+            append(re, s.chips, &slotre, count);
+            append(im, s.chips, &slotim, count);
+            let next = d.bench;
+            drew(s, next, count, out, n)
         }
     }
 }
@@ -102,10 +111,6 @@ pub fn draw(
 ) -> Done {
     match two_lengths(first, line, at) {
         Lengths::Not(fault) => no_call(s, n, fault),
-        Lengths::Are(one, two) => {
-            let b = s.bench;
-            let d = draw_any(b, one, two, re, im, s.chips);
-            drew(s, d, out, n)
-        }
+        Lengths::Are(one, two) => draw_both(s, one, two, out, n, re, im),
     }
 }

@@ -10,8 +10,8 @@ pub mod sync;
 // How many chips a recording holds.
 pub use script::faults::CHIPS;
 
-// Past the chips of a full recording there is room for those of one draw, at most 2,560, or of one line, at most 16,384: they are
-// put there first, and counted once it is known that they fit.
+// Past the chips of a full recording there is room for those of one line, at most 16,384, or of one draw: they are put there first,
+// and counted once it is known that they fit.
 pub const ROOM: usize = 54784;
 
 pub type Chips = [i32; ROOM];
