@@ -1,5 +1,11 @@
 // Decimal numbers of 32 bits.
-ghost use Prim.Native.Nat.{_≤_};
+ghost use mathlib.Core.Path.{_≡_};
+ghost use Prim.Native.Nat.{_-_};
+ghost use mathlib.Core.Bool.{cond};
+ghost use mathlib.Core.Option.{some, none};
+ghost use lib.Dec.{leb};
+ghost use lib.IntN.{pos, negℤ};
+ghost use Rattle.text.specs.Decimal.{at-most, component, is-digit, natural, told-component, told-natural, value};
 
 pub enum Natural {
     Is(u32),
@@ -13,7 +19,7 @@ pub enum Component {
 
 // The digit's value, or 10.
 pub fn digit(b: u8) -> u64
-    ensures { λ r. ⌜ r ≤ 10 ⌝ }
+    ensures { λ r. ⌜ r ≡ cond (is-digit b) (b - 48) 10 ⌝ }
 {
     if b < b'0' {
         return 10;
@@ -25,7 +31,9 @@ pub fn digit(b: u8) -> u64
 }
 
 // The number that the digits of w write.
-pub fn to_natural(w: &[u8]) -> Natural {
+pub fn to_natural(w: &[u8]) -> Natural
+    ensures { λ r. ⌜ told-natural r ≡ natural (now (w .entry)) ⌝ }
+{
     if w.len() == 0 {
         return Natural::Bad;
     }
@@ -43,15 +51,20 @@ pub fn to_natural(w: &[u8]) -> Natural {
     Natural::Is(v as u32)
 }
 
-fn plus(v: u32) -> Component {
+// v as a component, where it fits.
+fn plus(v: u32) -> Component
+    ensures { λ r. ⌜ told-component r ≡ cond (leb v 2147483647) (some (pos v)) none ⌝ }
+{
     if v > 2147483647 {
         return Component::Bad;
     }
     Component::Is(v as i32)
 }
 
-// `!x` is -x - 1, and fits whatever x is.
-fn minus(v: u32) -> Component {
+// -v as a component, where it fits. `!x` is -x - 1, and fits whatever x is.
+fn minus(v: u32) -> Component
+    ensures { λ r. ⌜ told-component r ≡ cond (leb v 2147483648) (some (negℤ (pos v))) none ⌝ }
+{
     if v == 0 {
         return Component::Is(0);
     }
@@ -61,7 +74,10 @@ fn minus(v: u32) -> Component {
     Component::Is(!((v - 1) as i32))
 }
 
-fn negated(w: &[u8]) -> Component {
+// The number that `-` before the digits of w writes.
+fn negated(w: &[u8]) -> Component
+    ensures { λ r. ⌜ told-component r ≡ cond (at-most 2147483648 (now (w .entry))) (some (negℤ (pos (value (now (w .entry)))))) none ⌝ }
+{
     match to_natural(w) {
         Natural::Is(v) => minus(v),
         Natural::Bad => Component::Bad,
@@ -69,11 +85,14 @@ fn negated(w: &[u8]) -> Component {
 }
 
 // The number that w writes, with `-` before its digits where it is negative.
-pub fn to_component(w: &[u8]) -> Component {
-    if w.len() > 0 {
-        if w[0] == b'-' {
-            return negated(&w[1..]);
-        }
+pub fn to_component(w: &[u8]) -> Component
+    ensures { λ r. ⌜ told-component r ≡ component (now (w .entry)) ⌝ }
+{
+    if w.len() == 0 {
+        return Component::Bad;
+    }
+    if w[0] == b'-' {
+        return negated(&w[1..]);
     }
     match to_natural(w) {
         Natural::Is(v) => plus(v),

@@ -1,0 +1,2 @@
+-- The laws for the proofs of this crate.
+pub mod Digits
