@@ -7,6 +7,7 @@
 test:
 	@rt fmt --check
 	@tests/contract-names.sh
+	@tests/tdd.sh
 	@tests/compiler-refusals.sh
 	@rt ci
 

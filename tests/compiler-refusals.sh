@@ -6,6 +6,7 @@ root=$(cd "$(dirname "$0")/.." && pwd)
 copy=$(mktemp -d)
 trap 'rm -rf "$copy"' EXIT
 cp -R "$root/crates.txt" "$root/crates" "$copy"
+[ ! -d "$root/target" ] || cp -R "$root/target" "$copy" # what is proved need not be proved again to see a type error
 
 # The text after a 'NAME: ' line of an edit.
 field() {

@@ -40,6 +40,14 @@ done
 [ $lessons -gt 0 ] || fail "lessons has no script"
 echo "tdd: $lessons lessons give the answers that they must, and quote them"
 
+# holds FILE TEXT: the file has the text, indented
+holds() {
+    case $(cat "$1") in *"$(printf '%s\n' "$2" | sed 's/^/    /')"*) ;; *) fail "$1 does not show, indented: $2" ;; esac
+}
+holds README.md "$(cat lessons/first-slot.out)"
+holds docs/TDD.md "$(echo help | ./tdd)"
+echo "tdd: README shows the first lesson's answers, docs/TDD.md what help says"
+
 first=lessons/first-slot
 ./tdd <$first.txt >"$room/found"
 same "a script on standard input" "$room/found" $first.out
