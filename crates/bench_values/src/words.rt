@@ -1,20 +1,7 @@
 // The words of a line, one blank apart; the numbers of a plan's record stand in one word, a comma apart.
 
-// s[from..to], or nothing where there is no such part.
-pub fn part(s: &[u8], from: usize, to: usize) -> &[u8] {
-    if from > to {
-        return &s[0..0];
-    }
-    if to > s.len() {
-        return &s[0..0];
-    }
-    &s[from..to]
-}
-
-// Byte i of s; a blank past its end.
-pub fn byte(s: &[u8], i: usize) -> u8 {
-    if i < s.len() { s[i] } else { b' ' }
-}
+pub use text::words::byte;
+pub use text::words::part;
 
 // The numbers of a line after its name, 0 where there is none.
 pub struct Row(pub u32, pub u32, pub u32, pub u32, pub u32);
