@@ -41,7 +41,8 @@ def read_manual(manual):
     table = manual.partition("| line | does | answers |\n")[2].partition("\n\n")[0]
     forms = findall(r"(?m)^\| `([^`]+)` \|", table)
     listed = manual.partition("## What help says\n")[2].splitlines()
-    demand(forms == [line.partition("#")[0].strip() for line in listed], "docs/TDD.md",
+    helped = [line.partition("#")[0].strip() for line in listed]
+    demand(forms == [form for form in helped if form], "docs/TDD.md",
            "the table of calls and what help says do not have the same forms")
     return {form.split()[0]: form for form in forms}, [line[4:] for line in listed]
 

@@ -9,9 +9,22 @@ use bench::Bench;
 use bench::Drawn;
 use slot::field;
 
-// What a draw into buffers of n and m entries does and answers, in two buffers of a slot's 2,560 chips: a longer buffer gets no more of them. Where n and
-// m differ no chip is written, and any two lengths that differ are refused alike.
-pub fn draw_any(b: Bench, n: u32, m: u32, re: &mut [i32], im: &mut [i32]) -> Drawn
+// As many entries as a slot has chips.
+pub type SlotBuffer = [i32; 2560];
+
+// What a draw into buffers of n and m entries does and answers, whatever n and m are. A slot has 2,560 chips, so a longer buffer gets no more than
+// these two take.
+pub fn draw_any(b: Bench, n: u32, m: u32, re: &mut SlotBuffer, im: &mut SlotBuffer) -> Drawn
+    ensures answer { λ r. ⌜ told-draw (r .answer) ≡ counted (draw-call b n m) ⌝ }
+    ensures bench { λ r. ⌜ r .bench ≡ after (draw-call b n m) b (λ d. d .bench) ⌝ }
+    ensures real { λ r. ⌜ now (re .exit) ≡ after (draw-call b n m) (now (re .entry)) (λ d. written (d .chips .re) (now (re .entry))) ⌝ }
+    ensures imaginary { λ r. ⌜ now (im .exit) ≡ after (draw-call b n m) (now (im .entry)) (λ d. written (d .chips .im) (now (im .entry))) ⌝ }
+{
+    draw_parts(b, n, m, re, im)
+}
+
+// Where n and m differ no chip is written, and any two lengths that differ are refused alike.
+fn draw_parts(b: Bench, n: u32, m: u32, re: &mut [i32], im: &mut [i32]) -> Drawn
     requires { ⌜ (2560 ≤ length (now re)) × (2560 ≤ length (now im)) ⌝ }
     ensures answer { λ r. ⌜ told-draw (r .answer) ≡ counted (draw-call b n m) ⌝ }
     ensures bench { λ r. ⌜ r .bench ≡ after (draw-call b n m) b (λ d. d .bench) ⌝ }

@@ -1,4 +1,5 @@
-// The bench's calls that take more of a line than numbers: load plan and load bits; and the words of their answers.
+// The bench's calls from a line: load plan and load bits, which take more of it than numbers, draws of any length, and the answers of the calls that change
+// settings or start a slot.
 use bench::Answered;
 use bench::Bench;
 use bench::CallAnswer;
@@ -20,7 +21,7 @@ pub struct Left {
     pub fault: Fault,
 }
 
-fn no_call(b: Bench, n: usize, fault: Fault) -> Left {
+pub fn no_call(b: Bench, n: usize, fault: Fault) -> Left {
     Left { bench: b, n, fault }
 }
 

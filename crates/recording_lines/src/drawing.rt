@@ -1,13 +1,17 @@
 // Draws, to the end of the recording.
+ghost use mathlib.Core.Path.{_≡_};
+ghost use Rattle.bench.specs.BenchCalls.{draw-call};
+ghost use Rattle.recording_lines.specs.Drawing.{after-draw, kept};
 use crate::Chips;
 use crate::Done;
 use crate::ROOM;
 use crate::Session;
 use crate::answered;
+use crate::fits;
 use crate::no_call;
-use crate::recording::unfit;
 use bench::Bench;
 use bench::DrawAnswer;
+use bench_lines::drawing::SlotBuffer;
 use bench_lines::drawing::draw_any;
 use bench_lines::refused;
 use script::arguments;
@@ -37,37 +41,35 @@ fn two_lengths(first: u32, line: &[u8], at: usize) -> Lengths {
     }
 }
 
-// Puts the first `count` entries of `drawn` into s from `at` on.
-fn append(s: &mut Chips, at: usize, drawn: &[i32], count: usize) {
+// Puts the first `count` entries of `drawn` into `chips` from `at` on.
+fn append(chips: &mut Chips, at: usize, drawn: &SlotBuffer, count: usize) {
     let mut k = at;
     for i in 0..count {
-        if i >= drawn.len() {
+        if i >= 2560 {
             break;
         }
         if k >= ROOM {
             break;
         }
-        s[k] = drawn[i];
+        chips[k] = drawn[i];
         k += 1;
     }
 }
 
-// After an accepted draw of `count` chips, which left the bench b. Where they do not fit, the bench before the draw stays.
-fn drew(s: Session, b: Bench, count: usize, out: &mut Answers, n: usize) -> Done {
-    let to = std::num::wrapping_add_usize(s.chips, count);
-    let fault = unfit(s.chips, to);
-    match fault {
-        Fault::None => {
-            let m = answers::counted(out, n, b"ok ", count as u64);
-            let next = Session {
-                bench: b,
-                chips: to,
-                readings: s.readings,
-            };
-            answered(next, answers::byte(out, m, b'\n'))
-        }
-        _ => no_call(s, n, fault),
+// After an accepted draw of `count` chips, which left the bench b.
+fn drew(s: Session, b: Bench, count: usize, out: &mut Answers, n: usize) -> Done
+    ensures { λ r. ⌜ r .session ≡ kept s b count ⌝ }
+{
+    if fits(s.chips, count) {
+        let next = Session {
+            bench: b,
+            chips: s.chips + count,
+            readings: s.readings,
+        };
+        let m = answers::counted(out, n, b"ok ", count as u64);
+        return answered(next, answers::byte(out, m, b'\n'));
     }
+    no_call(s, n, Fault::Full(count))
 }
 
 // A draw into buffers of two lengths.
@@ -79,7 +81,9 @@ fn draw_both(
     n: usize,
     re: &mut Chips,
     im: &mut Chips,
-) -> Done {
+) -> Done
+    ensures { λ r. ⌜ r .session ≡ after-draw s (draw-call (s .bench) one two) ⌝ }
+{
     let mut slotre = [0i32; 2560];
     let mut slotim = [0i32; 2560];
     let b = s.bench;

@@ -1,4 +1,6 @@
 // The calls of a line that make a recording of chips and read it.
+ghost use mathlib.Core.Path.{_≡_};
+ghost use Rattle.recording_lines.specs.Drawing.{fit};
 use bench::Bench;
 use script::faults::Fault;
 
@@ -35,7 +37,9 @@ pub struct Done {
     pub fault: Fault,
 }
 
-pub fn answered(session: Session, n: usize) -> Done {
+pub fn answered(session: Session, n: usize) -> Done
+    ensures { λ r. ⌜ r .session ≡ session ⌝ }
+{
     Done {
         session,
         n,
@@ -43,6 +47,18 @@ pub fn answered(session: Session, n: usize) -> Done {
     }
 }
 
-pub fn no_call(session: Session, n: usize, fault: Fault) -> Done {
+pub fn no_call(session: Session, n: usize, fault: Fault) -> Done
+    ensures { λ r. ⌜ r .session ≡ session ⌝ }
+{
     Done { session, n, fault }
+}
+
+// Whether so many more chips fit into the recording.
+pub fn fits(chips: usize, count: usize) -> bool
+    ensures { λ r. ⌜ r ≡ fit chips count ⌝ }
+{
+    if count > CHIPS {
+        return false;
+    }
+    chips <= CHIPS - count
 }

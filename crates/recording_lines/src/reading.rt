@@ -62,10 +62,10 @@ fn quotient(chips: u32, q: u32) -> usize {
     if q == 0 {
         return 0;
     }
-    long(chips / q)
+    as_size(chips / q)
 }
 
-fn long(x: u32) -> usize {
+fn as_size(x: u32) -> usize {
     x as usize
 }
 
@@ -76,11 +76,20 @@ fn all(out: &mut Answers, n: usize, yre: &[i32], yim: &[i32], count: usize) -> u
     values(out, m, part(yre, 0, count), part(yim, 0, count))
 }
 
-// The hard bits of the first `count` readings, at most 1,104.
-fn bits(yre: &[i32], yim: &[i32], count: usize) -> [u8; 2208] {
+// The hard bits of the first `count` readings, or else the number by which harden refuses, and 0 where it does not.
+struct HardBits {
+    refusal: u32,
+    bytes: [u8; 2208],
+}
+
+fn hard_bits(yre: &[i32], yim: &[i32], count: usize) -> HardBits {
     let mut bytes = [0u8; 2208];
-    analyser::harden(part(yre, 0, count), part(yim, 0, count), &mut bytes);
-    bytes
+    let a = analyser::harden(part(yre, 0, count), part(yim, 0, count), &mut bytes);
+    let refusal = match a {
+        HardenAnswer::Hardened => 0,
+        HardenAnswer::Refused(number) => number,
+    };
+    HardBits { refusal, bytes }
 }
 
 fn digits(out: &mut Answers, n: usize, bytes: &[u8], count: usize) -> usize {
@@ -106,7 +115,12 @@ pub fn harden(
     if s.readings == 0 {
         return no_call(s, n, Fault::NoReadings);
     }
-    let bytes = bits(yre, yim, s.readings);
+    let hard = hard_bits(yre, yim, s.readings);
+    if hard.refusal != 0 {
+        let m = refused(out, n, hard.refusal);
+        return answered(s, answers::byte(out, m, b'\n'));
+    }
+    let bytes = hard.bytes;
     let count = std::num::wrapping_add_usize(s.readings, s.readings);
     answered(s, digits(out, n, &bytes, count))
 }

@@ -1,10 +1,10 @@
 // Chips of one's own, and parts of the recording.
-use crate::CHIPS;
 use crate::Chips;
 use crate::Done;
 use crate::ROOM;
 use crate::Session;
 use crate::answered;
+use crate::fits;
 use crate::no_call;
 use script::arguments;
 use script::arguments::Chip;
@@ -91,7 +91,7 @@ pub fn erase(s: Session, out: &mut Answers, n: usize) -> Done {
     answered(next, ok(out, n))
 }
 
-// Where chips that were put after the recording's end, ended; or what is wrong.
+// Where the chips of a line ended; or what is wrong.
 struct Kept {
     fault: Fault,
     to: usize,
@@ -122,12 +122,16 @@ fn keep(line: &[u8], chips: usize, re: &mut Chips, im: &mut Chips) -> Kept {
     Kept { fault, to: k }
 }
 
-// What is wrong where chips were put from `chips` to `to`: none were, or they go past a full recording.
-pub fn unfit(chips: usize, to: usize) -> Fault {
-    if to > CHIPS {
-        return Fault::Full(std::num::wrapping_sub_usize(to, chips));
+// What is wrong with a line of so many chips: there are none, or they do not fit.
+fn unfit(chips: usize, count: usize) -> Fault {
+    if count == 0 {
+        return Fault::Missing;
     }
-    Fault::None
+    if fits(chips, count) {
+        Fault::None
+    } else {
+        Fault::Full(count)
+    }
 }
 
 pub fn record(
@@ -141,11 +145,7 @@ pub fn record(
     let kept = keep(line, s.chips, re, im);
     let mut fault = kept.fault;
     if let Fault::None = fault {
-        fault = if kept.to == s.chips {
-            Fault::Missing
-        } else {
-            unfit(s.chips, kept.to)
-        };
+        fault = unfit(s.chips, std::num::wrapping_sub_usize(kept.to, s.chips));
     }
     match fault {
         Fault::None => {

@@ -48,7 +48,7 @@ fn wrong(fault: Fault) -> Numbers {
     }
 }
 
-// The numbers of a line that should have the given form. Where the form has no words in brackets, the line ends with them.
+// The numbers of a line that should have the given form. Where the form has no words in brackets, nothing may follow them.
 pub fn all(form: &[u8], line: &[u8]) -> Numbers {
     let wanted = forms::wanted(form);
     let read = first(wanted.count, line);

@@ -14,7 +14,7 @@ pub enum Fault {
     NoComponent(Word),
     NoRecord(Word),
     NoBits(Word),
-    // So many chips from this one on are not in the recording.
+    // From this chip on so many are not in the recording.
     Outside(u32, u32),
     // So many chips do not fit into the recording.
     Full(usize),

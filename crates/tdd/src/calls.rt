@@ -90,7 +90,8 @@ fn bench_call(
         LOAD_BITS => bench_lines::load_bits(b, x[0], x[1], line, rest, out, n),
         SET_SYNC => bench_lines::told(b.set_sync(x[0], x[1], x[2], x[3], x[4]), out, n),
         CLEAR_SYNC => bench_lines::told(b.clear_sync(), out, n),
-        _ => bench_lines::told(b.start(), out, n),
+        START => bench_lines::told(b.start(), out, n),
+        _ => bench_lines::no_call(b, n, Fault::Unknown(words::next(line, 0))),
     };
     after(s, left)
 }
@@ -153,7 +154,7 @@ fn formed(
 }
 
 // What a line leaves.
-pub struct Answered {
+pub struct Next {
     pub session: Session,
     pub n: usize,
 }
@@ -170,25 +171,25 @@ pub fn answer(
     im: &mut Chips,
     yre: &mut Readings,
     yim: &mut Readings,
-) -> Answered {
+) -> Next {
     let w = words::next(line, 0);
     if w.from == w.to {
-        return Answered { session: s, n };
+        return Next { session: s, n };
     }
     let f = forms::named(forms, words::part(line, w.from, w.to));
     let form = words::part(forms, f.from, f.to);
     if f.row == 0 {
         let m = faults::tell(out, n, Fault::Unknown(w), line, at, form, s.chips);
-        return Answered { session: s, n: m };
+        return Next { session: s, n: m };
     }
     let done = formed(f.row, form, forms, line, s, out, n, re, im, yre, yim);
     let session = done.session;
     let fault = done.fault;
     match fault {
-        Fault::None => Answered { session, n: done.n },
+        Fault::None => Next { session, n: done.n },
         _ => {
             let m = faults::tell(out, done.n, fault, line, at, form, s.chips);
-            Answered { session, n: m }
+            Next { session, n: m }
         }
     }
 }

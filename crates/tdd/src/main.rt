@@ -4,7 +4,7 @@ use scripts::Ending;
 mod calls;
 mod scripts;
 
-// The forms of the calls, which `help` lists; the numbers of their rows are in calls.rt.
+// The forms of the calls, as `help` prints them; the numbers of their rows are in calls.rt.
 fn main() {
     program(
         b"set-cell P T                    # cell parameter P, 0 to 127, burst type T, 1 to 3; closes every code, clears sync
@@ -13,10 +13,10 @@ load-plan [Q,K,G]...            # these codes in place of all open ones, or no c
 close Q K                       # code (Q, K) is open no more
 set-gain Q K G                  # a new gain for an open code, which keeps its bits
 load-bits Q K [BITS]            # the bits of an open code, field 1's first, as one word of digits
-set-sync CASE FRAME HALF GP GS  # the cell's sync burst: case 1 or 2, frame 1 or 2, half 0 or 1, gains 1 to 4095
+set-sync CASE FRAME HALF GP GS  # the cell's sync burst: case 1 or 2, frame 1 or 2, half 0, or 1 in case 2, gains 1 to 4095
 clear-sync                      # no sync burst
 start                           # a slot of 2560 chips with the settings as they are now
-draw N [M]                      # the next N chips of the slot, to the end of the recording
+draw N [M]                      # the next N chips of the slot, to the end of the recording (N entries for re, M for im)
 record RE IM [RE IM]...         # chips of your own, to the end of the recording
 erase                           # empties the recording
 show FROM COUNT                 # COUNT chips of the recording from chip FROM on, the first chip is 0
@@ -25,6 +25,7 @@ harden                          # the bits of what the last accepted read gave
 read-sync CASE FROM COUNT       # what the sync burst in these 256 chips was sent for
 find FROM COUNT                 # where in these chips the primary sync code is strongest, and how strong
 help                            # this list
+# In brackets: may be left out. Before ...: as often as you like. A script has neither brackets nor dots.
 ",
     );
 }
@@ -43,10 +44,11 @@ fn program(forms: &[u8]) {
     }
 }
 
-// Says what failed, and why, on standard error.
+// Says what failed, and why, on standard error. The program has no exit status: the command ./tdd gives it a descriptor 3 for that.
 fn fail(what: &[u8], name: &[u8]) {
     io::write_all(2, what);
     os::fail(name);
+    io::write_all(3, b"failed\n");
 }
 
 // Tells how a script's run ended, and answers whether the next script can be run.

@@ -1,6 +1,6 @@
 // A script from its first line to its last.
 use crate::calls;
-use crate::calls::Answered;
+use crate::calls::Next;
 use bench::Bench;
 use recording_lines::Chips;
 use recording_lines::READINGS;
@@ -38,7 +38,7 @@ fn answer_line(
     im: &mut Chips,
     yre: &mut Readings,
     yim: &mut Readings,
-) -> Answered {
+) -> Next {
     let line = words::part(buf, from, to);
     calls::answer(forms, line, at, s, out, n, re, im, yre, yim)
 }
@@ -101,7 +101,7 @@ fn run(
     Ending::Whole
 }
 
-// Answers a script with buffers and a recording of its own: some 600 KB of the stack.
+// Answers a script with buffers and a recording of its own; a run takes some 800 KB of the stack.
 pub fn answer_all(fd: i32, forms: &[u8]) -> Ending {
     let mut buf = [0u8; lines::ROOM];
     let mut out = [0u8; answers::ROOM];

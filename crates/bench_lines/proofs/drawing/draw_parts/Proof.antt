@@ -1,4 +1,4 @@
--- `draw_any` meets its contract: draw's own, by the laws of lengths. Assumes nothing.
+-- `draw_parts` meets its contract: draw's own, by the laws of lengths. Assumes nothing.
 use mathlib.Core.Path.{_≡_, refl, sym, ap, _∙_}
 use native.Mathlib.Omega.{arith}
 use borrow.Author.Needs.{needs}
@@ -7,8 +7,8 @@ use lib.ListN.{length, take}
 use lib.Seq.{length-take-le}
 use Rattle.bench.specs.BenchCalls.{draw-call}
 use Rattle.bench_lines.proofs.Draws.{unequal, no-more, relent}
-use Rattle.bench_lines.proofs.drawing.draw_any.Statement.{statement}
-use Rattle.bench_lines.proofs.drawing.draw_any.Tie as tie
+use Rattle.bench_lines.proofs.drawing.draw_parts.Statement.{statement}
+use Rattle.bench_lines.proofs.drawing.draw_parts.Tie as tie
 
 -- both buffers have room for a whole slot
 room : (c : tie.After-smaller) → let s = c .before .before .args in
@@ -44,8 +44,8 @@ returns-2 c =
     relent (s .b) (s .n) (s .m) n n (s .re .now) (s .im .now) (room k .0) (room k .1)
     (rw (k .smaller .ensures) (no-more (s .b) (s .n) ∙ ap (draw-call (s .b) (s .n)) same)) (c .before .before .draw2 .ensures)
 
-pub draw-any-spec : {M : Type 1} → statement M
-draw-any-spec =
+pub draw-parts-spec : {M : Type 1} → statement M
+draw-parts-spec =
     tie.close
     (tie.spec
     (λ c. search needs)

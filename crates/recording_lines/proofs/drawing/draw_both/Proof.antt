@@ -1,0 +1,38 @@
+-- `draw_both` meets its contract: a refusal changes nothing, and an accepted draw what `drew` says. Assumes nothing.
+use mathlib.Core.Path.{_≡_, sym, ap, _∙_}
+use borrow.Author.Needs.{needs}
+use Rattle.bench.specs.BenchCalls.{draw-call, told-draw}
+use Rattle.recording_lines.proofs.Sessions.{refused-stays, drew-keeps}
+use Rattle.recording_lines.proofs.drawing.draw_both.Statement.{statement}
+use Rattle.recording_lines.proofs.drawing.draw_both.Tie as tie
+
+returns : tie.Need-returns
+returns c =
+    let m = c .before .before .before .before .before .before in
+    let d = m .before .before in
+    let s = d .before .before .before .before .args in
+    c .answered .ensures ∙ refused-stays (s .s) (draw-call (s .s .bench) (s .one) (s .two)) (sym (ap told-draw (m .a .given .1)) ∙ d .draw-any .ensures .0)
+
+returns-2 : tie.Need-returns-2
+returns-2 c =
+    let m = c .before .before .before .before .before .before .before .before .before .before in
+    let d = m .before .before in
+    let s = d .before .before .before .before .args in
+    let e = d .draw-any .ensures in
+    c .drew .ensures ∙ drew-keeps (s .s) (draw-call (s .s .bench) (s .one) (s .two)) (sym (ap told-draw (m .a2 .given .1)) ∙ e .0) (e .1 .0)
+
+pub draw-both-spec : {M : Type 1} → statement M
+draw-both-spec =
+    tie.close
+    (tie.spec
+    (λ c κs. search needs)
+    (λ c. search needs)
+    (λ c κs. search needs)
+    (λ c κs. search needs)
+    (λ c κs. search needs)
+    (λ c. search needs)
+    (λ c κs. search needs)
+    (λ c κs. search needs)
+    (λ c κs. search needs)
+    returns
+    returns-2)
