@@ -73,6 +73,20 @@ tdd: cannot read lessons: Is a directory"
     cat $first.out
 } >"$room/due"
 same "the script after two that cannot be read" "$room/found" "$room/due"
+./tdd nowhere.txt $first.txt >"$room/found" 2>&1 || :
+{
+    echo "==> nowhere.txt <=="
+    echo "tdd: cannot open nowhere.txt: No such file or directory"
+    echo "==> $first.txt <=="
+    cat $first.out
+} >"$room/due"
+same "an error in its place between the answers" "$room/found" "$room/due"
+status=0
+./tdd <&- 2>"$room/said" || status=$?
+told "a run without standard input" 1 "tdd: cannot read standard input: it is closed"
+status=0
+./tdd $first.txt >&- 2>"$room/said" || status=$?
+told "a run without standard output" 1 "tdd: cannot write to standard output: it is closed"
 status=0
 ./tdd $first.txt $first.txt >/dev/full 2>"$room/said" || status=$?
 told "a run whose answers cannot be written" 1 "tdd: cannot write the answers: No space left on device"
