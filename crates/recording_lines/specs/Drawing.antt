@@ -1,21 +1,31 @@
--- What a draw leaves of the session (docs/TDD.md): the bench, how many chips the recording has, how many readings there are.
+-- What a draw leaves of the state (docs/TDD.md): the bench, how many chips the recording has, how many readings there are.
 use Prim.Native.Nat.{ℕ, _+_}
 use mathlib.Core.Bool.{Bool, cond}
 use lib.Dec.{leb}
 use Rattle.codes.specs.Refusals.{Answer, refused, gives}
 use Rattle.bench.specs.declared.Bench.{Bench}
 use Rattle.bench.specs.BenchCalls.{Draw}
-use Rattle.recording_lines.specs.declared.Session.{Session}
+use Rattle.script.specs.declared.faults.Fault.{Fault}
+use Rattle.script.specs.declared.faults.Fault.the-variants.{None, Full}
+use Rattle.recording_lines.specs.declared.State.{State}
 
 -- "The recording is a list of at most 38,400 chips"
 abbrev pub fit : ℕ → ℕ → Bool
 fit chips count = leb (chips + count) 38400
 
 -- "puts the chips at the end of the recording"; where they do not fit, nothing changes, and the bench stays as it was before the draw
-abbrev pub kept : Session → Bench → ℕ → Session
+abbrev pub kept : State → Bench → ℕ → State
 kept s b count = cond (fit (s .chips) count) (record { bench = b; chips = s .chips + count; readings = s .readings }) s
 
 -- a refused draw changes nothing, however full the recording is
-abbrev pub after-draw : Session → Answer Draw → Session
+abbrev pub after-draw : State → Answer Draw → State
 after-draw s (refused k) = s
 after-draw s (gives d) = kept s (d .bench) (d .count)
+
+-- which lines are no call: those whose chips do not fit, and no refused draw
+abbrev pub fault-of : State → ℕ → Fault
+fault-of s count = cond (fit (s .chips) count) None (Full count)
+
+abbrev pub draw-fault : State → Answer Draw → Fault
+draw-fault s (refused k) = None
+draw-fault s (gives d) = fault-of s (d .count)

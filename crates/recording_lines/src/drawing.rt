@@ -1,11 +1,11 @@
 // Draws, to the end of the recording.
 ghost use mathlib.Core.Path.{_≡_};
 ghost use Rattle.bench.specs.BenchCalls.{draw-call};
-ghost use Rattle.recording_lines.specs.Drawing.{after-draw, kept};
+ghost use Rattle.recording_lines.specs.Drawing.{after-draw, draw-fault, fault-of, kept};
 use crate::Chips;
 use crate::Done;
 use crate::ROOM;
-use crate::Session;
+use crate::State;
 use crate::answered;
 use crate::fits;
 use crate::no_call;
@@ -57,11 +57,12 @@ fn append(chips: &mut Chips, at: usize, drawn: &SlotBuffer, count: usize) {
 }
 
 // After an accepted draw of `count` chips, which left the bench b.
-fn drew(s: Session, b: Bench, count: usize, out: &mut Answers, n: usize) -> Done
-    ensures { λ r. ⌜ r .session ≡ kept s b count ⌝ }
+fn drew(s: State, b: Bench, count: usize, out: &mut Answers, n: usize) -> Done
+    ensures left { λ r. ⌜ r .state ≡ kept s b count ⌝ }
+    ensures told { λ r. ⌜ r .fault ≡ fault-of s count ⌝ }
 {
     if fits(s.chips, count) {
-        let next = Session {
+        let next = State {
             bench: b,
             chips: s.chips + count,
             readings: s.readings,
@@ -74,7 +75,7 @@ fn drew(s: Session, b: Bench, count: usize, out: &mut Answers, n: usize) -> Done
 
 // A draw into buffers of two lengths.
 fn draw_both(
-    s: Session,
+    s: State,
     one: u32,
     two: u32,
     out: &mut Answers,
@@ -82,7 +83,8 @@ fn draw_both(
     re: &mut Chips,
     im: &mut Chips,
 ) -> Done
-    ensures { λ r. ⌜ r .session ≡ after-draw s (draw-call (s .bench) one two) ⌝ }
+    ensures left { λ r. ⌜ r .state ≡ after-draw s (draw-call (s .bench) one two) ⌝ }
+    ensures told { λ r. ⌜ r .fault ≡ draw-fault s (draw-call (s .bench) one two) ⌝ }
 {
     let mut slotre = [0i32; 2560];
     let mut slotim = [0i32; 2560];
@@ -104,7 +106,7 @@ fn draw_both(
 }
 
 pub fn draw(
-    s: Session,
+    s: State,
     first: u32,
     line: &[u8],
     at: usize,

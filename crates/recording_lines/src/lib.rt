@@ -1,5 +1,6 @@
 // The calls of a line that make a recording of chips and read it.
 ghost use mathlib.Core.Path.{_≡_};
+ghost use Rattle.script.specs.declared.faults.Fault.the-variants.{None};
 ghost use Rattle.recording_lines.specs.Drawing.{fit};
 use bench::Bench;
 use script::faults::Fault;
@@ -24,7 +25,7 @@ pub const READINGS: usize = 1104;
 pub type Readings = [i32; READINGS];
 
 // What a line finds and leaves: the bench, how many chips the recording has, how many readings the last accepted read gave.
-pub struct Session {
+pub struct State {
     pub bench: Bench,
     pub chips: usize,
     pub readings: usize,
@@ -32,25 +33,27 @@ pub struct Session {
 
 // What a line leaves, how many bytes of the answers are used, and what was wrong with it.
 pub struct Done {
-    pub session: Session,
+    pub state: State,
     pub n: usize,
     pub fault: Fault,
 }
 
-pub fn answered(session: Session, n: usize) -> Done
-    ensures { λ r. ⌜ r .session ≡ session ⌝ }
+pub fn answered(state: State, n: usize) -> Done
+    ensures left { λ r. ⌜ r .state ≡ state ⌝ }
+    ensures told { λ r. ⌜ r .fault ≡ None ⌝ }
 {
     Done {
-        session,
+        state,
         n,
         fault: Fault::None,
     }
 }
 
-pub fn no_call(session: Session, n: usize, fault: Fault) -> Done
-    ensures { λ r. ⌜ r .session ≡ session ⌝ }
+pub fn no_call(state: State, n: usize, fault: Fault) -> Done
+    ensures left { λ r. ⌜ r .state ≡ state ⌝ }
+    ensures told { λ r. ⌜ r .fault ≡ fault ⌝ }
 {
-    Done { session, n, fault }
+    Done { state, n, fault }
 }
 
 // Whether so many more chips fit into the recording.

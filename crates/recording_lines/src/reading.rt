@@ -3,7 +3,7 @@ use crate::Chips;
 use crate::Done;
 use crate::READINGS;
 use crate::Readings;
-use crate::Session;
+use crate::State;
 use crate::answered;
 use crate::no_call;
 use crate::recording::outside;
@@ -20,7 +20,7 @@ use text::answers::Answers;
 
 // What read tells of the numbers P Q K FROM COUNT. The readings go to yre and yim, which stay where it refuses.
 pub fn read(
-    s: Session,
+    s: State,
     x: [u32; 5],
     out: &mut Answers,
     n: usize,
@@ -106,7 +106,7 @@ fn digits(out: &mut Answers, n: usize, bytes: &[u8], count: usize) -> usize {
 }
 
 pub fn harden(
-    s: Session,
+    s: State,
     out: &mut Answers,
     n: usize,
     yre: &mut Readings,

@@ -2,7 +2,7 @@
 use crate::Chips;
 use crate::Done;
 use crate::ROOM;
-use crate::Session;
+use crate::State;
 use crate::answered;
 use crate::fits;
 use crate::no_call;
@@ -67,7 +67,7 @@ pub fn ok(out: &mut Answers, n: usize) -> usize {
 }
 
 pub fn show(
-    s: Session,
+    s: State,
     from: u32,
     count: u32,
     out: &mut Answers,
@@ -85,7 +85,7 @@ pub fn show(
     }
 }
 
-pub fn erase(s: Session, out: &mut Answers, n: usize) -> Done {
+pub fn erase(s: State, out: &mut Answers, n: usize) -> Done {
     let mut next = s;
     next.chips = 0;
     answered(next, ok(out, n))
@@ -135,7 +135,7 @@ fn unfit(chips: usize, count: usize) -> Fault {
 }
 
 pub fn record(
-    s: Session,
+    s: State,
     line: &[u8],
     out: &mut Answers,
     n: usize,

@@ -1,7 +1,7 @@
 // Read sync and find in a part of the recording.
 use crate::Chips;
 use crate::Done;
-use crate::Session;
+use crate::State;
 use crate::answered;
 use crate::no_call;
 use crate::recording::outside;
@@ -27,7 +27,7 @@ fn burst(out: &mut Answers, n: usize, c: Candidate) -> usize {
 }
 
 pub fn read_sync(
-    s: Session,
+    s: State,
     case: u32,
     from: u32,
     count: u32,
@@ -67,7 +67,7 @@ fn strongest(re: &[i32], im: &[i32]) -> FindAnswer {
 }
 
 pub fn find(
-    s: Session,
+    s: State,
     from: u32,
     count: u32,
     out: &mut Answers,

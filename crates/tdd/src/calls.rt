@@ -4,7 +4,7 @@ use codes::CellParameter;
 use recording_lines::Chips;
 use recording_lines::Done;
 use recording_lines::Readings;
-use recording_lines::Session;
+use recording_lines::State;
 use recording_lines::answered;
 use recording_lines::drawing;
 use recording_lines::reading;
@@ -54,17 +54,17 @@ const FIND: usize = 17;
 
 const HELP: usize = 18;
 
-// What a call of the bench left, in the session.
-fn after(s: Session, left: Left) -> Done {
+// What a call of the bench left, in the state.
+fn after(s: State, left: Left) -> Done {
     let bench = left.bench;
     let fault = left.fault;
-    let session = Session {
+    let state = State {
         bench,
         chips: s.chips,
         readings: s.readings,
     };
     Done {
-        session,
+        state,
         n: left.n,
         fault,
     }
@@ -76,7 +76,7 @@ fn bench_call(
     x: [u32; 5],
     line: &[u8],
     rest: usize,
-    s: Session,
+    s: State,
     out: &mut Answers,
     n: usize,
 ) -> Done {
@@ -102,7 +102,7 @@ fn call(
     x: [u32; 5],
     line: &[u8],
     rest: usize,
-    s: Session,
+    s: State,
     out: &mut Answers,
     n: usize,
     re: &mut Chips,
@@ -128,7 +128,7 @@ fn formed(
     form: &[u8],
     forms: &[u8],
     line: &[u8],
-    s: Session,
+    s: State,
     out: &mut Answers,
     n: usize,
     re: &mut Chips,
@@ -155,7 +155,7 @@ fn formed(
 
 // What a line leaves.
 pub struct Next {
-    pub session: Session,
+    pub state: State,
     pub n: usize,
 }
 
@@ -164,7 +164,7 @@ pub fn answer(
     forms: &[u8],
     line: &[u8],
     at: u64,
-    s: Session,
+    s: State,
     out: &mut Answers,
     n: usize,
     re: &mut Chips,
@@ -174,22 +174,22 @@ pub fn answer(
 ) -> Next {
     let w = words::next(line, 0);
     if w.from == w.to {
-        return Next { session: s, n };
+        return Next { state: s, n };
     }
     let f = forms::named(forms, words::part(line, w.from, w.to));
     let form = words::part(forms, f.from, f.to);
     if f.row == 0 {
         let m = faults::tell(out, n, Fault::Unknown(w), line, at, form, s.chips);
-        return Next { session: s, n: m };
+        return Next { state: s, n: m };
     }
     let done = formed(f.row, form, forms, line, s, out, n, re, im, yre, yim);
-    let session = done.session;
+    let state = done.state;
     let fault = done.fault;
     match fault {
-        Fault::None => Next { session, n: done.n },
+        Fault::None => Next { state, n: done.n },
         _ => {
             let m = faults::tell(out, done.n, fault, line, at, form, s.chips);
-            Next { session, n: m }
+            Next { state, n: m }
         }
     }
 }

@@ -6,7 +6,7 @@ use recording_lines::Chips;
 use recording_lines::READINGS;
 use recording_lines::ROOM;
 use recording_lines::Readings;
-use recording_lines::Session;
+use recording_lines::State;
 use script::faults;
 use script::faults::Fault;
 use text::answers;
@@ -31,7 +31,7 @@ fn answer_line(
     from: usize,
     to: usize,
     at: u64,
-    s: Session,
+    s: State,
     out: &mut Answers,
     n: usize,
     re: &mut Chips,
@@ -55,7 +55,7 @@ fn run(
     yre: &mut Readings,
     yim: &mut Readings,
 ) -> Ending {
-    let mut session = Session {
+    let mut state = State {
         bench: Bench::fresh(),
         chips: 0,
         readings: 0,
@@ -69,8 +69,8 @@ fn run(
         match lines::advance(buf, input) {
             Step::Line(from, to, next) => {
                 input = next;
-                let done = answer_line(forms, buf, from, to, at, session, out, n, re, im, yre, yim);
-                session = done.session;
+                let done = answer_line(forms, buf, from, to, at, state, out, n, re, im, yre, yim);
+                state = done.state;
                 n = done.n;
                 at = std::num::wrapping_add_u64(at, 1);
             }

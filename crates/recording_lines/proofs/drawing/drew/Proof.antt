@@ -24,10 +24,10 @@ add-answered c =
     record { fits = lt-of-le-of-lt h (lit< tt) }
 
 returns : tie.Need-returns
-returns c = c .answered .ensures ∙ rw (does-fit (c .before .before .before .before .before .before .before)) refl
+returns c = let e = c .answered .ensures in rw (does-fit (c .before .before .before .before .before .before .before)) e
 
 returns-2 : tie.Need-returns-2
-returns-2 c = c .no-call .ensures ∙ rw (does-not (c .before)) refl
+returns-2 c = let e = c .no-call .ensures in rw (does-not (c .before)) e
 
 pub drew-spec : {M : Type 1} → statement M
 drew-spec =
