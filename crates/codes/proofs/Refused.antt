@@ -1,12 +1,12 @@
 -- What a refusal's number, found by itself, says of the whole answer. Assumes nothing.
-use mathlib.Core.Path.{_≡_, refl, subst}
+use mathlib.Core.Path.{_≡_, refl, sym, ap, subst, _∙_}
 use mathlib.Core.Logic.{_≢_}
 use mathlib.Core.Bool.{Bool, true, false, _&&_, not, cond}
 use mathlib.Core.List.{List, [], _∷_, _++_}
 use lib.Dec.{T, eqb}
 use borrow.Author.Tests.{eq-eqb}
 use mir.Facts.{and-yes}
-use Rattle.codes.specs.Refusals.{refused, gives, Refusal, _otherwise_, number}
+use Rattle.codes.specs.Refusals.{Answer, refused, gives, Refusal, _otherwise_, number, outcome, refusal-of}
 
 -- no refusal of the list has number 0
 unfoldable pub numbered : List Refusal → Bool
@@ -58,3 +58,20 @@ refused-early (r ∷ rs) qs d = go (r .condition) d (refused-early rs qs)
 pub passed-early : (rs qs : List Refusal) → Passed rs → number (rs ++ qs) ≡ number qs
 passed-early [] qs p = refl
 passed-early (r ∷ rs) qs p = rw (p .0) (passed-early rs qs (p .1))
+
+-- ---- an answer as a C struct holds it: its refusal's number or 0
+pub refusal-of-outcome : {A : Type 0} (a : Answer A) → refusal-of (outcome a) ≡ refusal-of a
+refusal-of-outcome (refused n) = refl
+refusal-of-outcome (gives x) = refl
+
+-- 0 is given for an accepted call alone
+pub accepted-alone : {A : Type 0} {a : A} (rs : List Refusal) → T (numbered rs) → refusal-of (rs otherwise a) ≡ 0 → rs otherwise a ≡ gives a
+accepted-alone {a} rs t e = accepted a rs t (sym (refusal-number rs) ∙ e)
+  where
+    refusal-number : (qs : List Refusal) → refusal-of (qs otherwise a) ≡ number qs
+    refusal-number [] = refl
+    refusal-number (q ∷ qs) = go (q .condition) (refusal-number qs)
+      where
+        go : (b : Bool) → refusal-of (qs otherwise a) ≡ number qs → refusal-of (cond b (refused (q .number)) (qs otherwise a)) ≡ cond b (q .number) (number qs)
+        go true h = refl
+        go false h = h

@@ -11,8 +11,10 @@ pub mod signs;
 pub mod tree;
 
 // Named as in the standard's mapping table (table 6): a cell parameter, 0 to 127, and a code group, 0 to 31.
+#[repr(C)]
 pub struct CellParameter(pub u32);
 
+#[repr(C)]
 pub struct CodeGroup(pub u32);
 
 pub enum ElementAnswer {

@@ -9,6 +9,7 @@ ghost use Rattle.complex.specs.Arithmetic.{_+j_, _⊕_, _⊗_, conj, rea
 ghost use Rattle.complex.specs.Buffers.{value};
 ghost use Rattle.complex.specs.Fits.{Fits32, ProductFits32};
 
+#[repr(C)]
 pub struct Complex {
     pub re: i32,
     pub im: i32,

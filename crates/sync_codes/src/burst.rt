@@ -154,7 +154,7 @@ pub fn allocated(case: u32, group: CodeGroup, frame: u32, half: u32) -> Allocate
 }
 
 // Three codes with units of 0: nothing is sent.
-fn silent() -> Allocated
+pub fn silent() -> Allocated
     ensures { λ r. ⌜ r ≡ silent ⌝ }
 {
     let none = ModulatedCode {

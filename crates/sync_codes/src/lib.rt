@@ -13,12 +13,14 @@ pub mod burst;
 pub mod sync;
 
 // A secondary sync code's number with the unit that modulates it.
+#[repr(C)]
 pub struct ModulatedCode {
     pub code: u32,
     pub unit: Complex,
 }
 
 // The three codes that a code group sends beside the primary code: the pair, then the marker.
+#[repr(C)]
 pub struct Allocated {
     pub first: ModulatedCode,
     pub second: ModulatedCode,

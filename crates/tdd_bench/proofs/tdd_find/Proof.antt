@@ -1,0 +1,41 @@
+-- `tdd_find` meets its contract: find's own. Assumes nothing.
+use mathlib.Core.Path.{_≡_, sym, ap, _∙_}
+use lib.IntN.{pos}
+use mir.Syntax.{w64}
+use mir.Val.{toZ, ofZ}
+use borrow.Author.Needs.{needs}
+use Rattle.codes.specs.Refusals.{Answer, after, refusal-of}
+use Rattle.sync_analyser.specs.declared.Peak.{Peak}
+use Rattle.sync_analyser.specs.Finding.{told-find}
+use Rattle.tdd_bench.proofs.tdd_find.Statement.{statement}
+use Rattle.tdd_bench.proofs.tdd_find.Tie as tie
+
+returns : tie.Need-returns
+returns c =
+    let d = c .before .before .before .before .before .before in
+    let e = d .find .ensures in
+    let p = sym (ap told-find (c .before .before .answer .given .1)) ∙ e .0 in
+    let z = c .before .before .answer .given .0 .0 .size in
+    let as-stored : toZ w64 (ofZ w64 z) ≡ z = search needs in
+    (ap refusal-of p, (ap (λ (a : Answer Peak). after a 0 (λ x. x .start)) p, (as-stored ∙ ap (λ (a : Answer Peak). after a (pos 0) (λ x. x .size)) p, e .1)))
+
+returns-2 : tie.Need-returns-2
+returns-2 c =
+    let d = c .before .before .before .before .before in
+    let e = d .find .ensures in
+    let p = sym (ap told-find (c .before .answer2 .given .1)) ∙ e .0 in
+    (ap refusal-of p, (ap (λ (a : Answer Peak). after a 0 (λ x. x .start)) p, (ap (λ (a : Answer Peak). after a (pos 0) (λ x. x .size)) p, e .1)))
+
+pub tdd-find-spec : {M : Type 1} → statement M
+tdd-find-spec =
+    tie.close
+    (tie.spec
+    (λ c κs. search needs)
+    (λ c. search needs)
+    (λ c. search needs)
+    (λ c. search needs)
+    (λ c. search needs)
+    returns
+    (λ c. search needs)
+    (λ c. search needs)
+    returns-2)
