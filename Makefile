@@ -1,15 +1,31 @@
 # make test: every check of the repository; its last line is rt ci's verdict.
+# make libraries: prove the libraries for hosts and build them into lib/, which stays when target/ goes.
+# make benchmark: build what it needs and print the table of docs/PERFORMANCE.md.
 # make values: prove and build the code rules, and print every value of them.
 # make vectors: prove and build the analyser, and print its answers to the test vectors.
 # make slots: prove and build the bench, and print its answers to a script of calls.
-.PHONY: test values vectors slots
+.PHONY: test libraries benchmark values vectors slots
+.NOTPARALLEL:
 
 test:
 	@rt fmt --check
 	@tests/contract-names.sh
+	@tests/export-contracts.sh
 	@tests/tdd.sh
+	@tests/host.sh
 	@tests/compiler-refusals.sh
 	@rt ci
+
+libraries: lib/libtdd_bench.a lib/libtdd_codes.a
+
+lib/lib%.a: crates.txt $(shell find crates -path '*/src/*' -o -path '*/specs/*' -o -path '*/proofs/*')
+	@mkdir -p lib target
+	@echo "make: proving and building $@, which takes some minutes the first time" >&2
+	@rt staticlib $* >target/$*.log 2>&1 || { tail -n 5 target/$*.log >&2; echo "make: $@ is not proved; target/$*.log says why" >&2; exit 1; }
+	@cp target/staticlib/lib$*.a $@
+
+benchmark: libraries lib/libtdd_parts.a
+	@cd host && cargo bench --quiet --bench benchmark
 
 values:
 	@rt check code_values >&2

@@ -160,7 +160,8 @@ tdd_find_result tdd_find(
  * Refuses 1; 2. */
 static inline uint32_t tdd_set_cell(tdd_bench *bench, uint32_t cell, uint32_t kind) {
     tdd_call_result r = tdd_bench_set_cell(*bench, cell, kind);
-    *bench = r.bench;
+    if (r.refusal == 0)
+        *bench = r.bench;
     return r.refusal;
 }
 
@@ -168,7 +169,8 @@ static inline uint32_t tdd_set_cell(tdd_bench *bench, uint32_t cell, uint32_t ki
  * Refuses 3; 4; 5; 6. */
 static inline uint32_t tdd_open(tdd_bench *bench, uint32_t q, uint32_t k, uint32_t gain) {
     tdd_call_result r = tdd_bench_open(*bench, q, k, gain);
-    *bench = r.bench;
+    if (r.refusal == 0)
+        *bench = r.bench;
     return r.refusal;
 }
 
@@ -181,7 +183,8 @@ static inline uint32_t tdd_load_plan(tdd_bench *bench, const tdd_channel *plan, 
     for (size_t i = 0; i < count && i < 17; i++)
         first.records[i] = plan[i];
     r = tdd_bench_load_records(*bench, first, count);
-    *bench = r.bench;
+    if (r.refusal == 0)
+        *bench = r.bench;
     if (place)
         *place = r.place;
     return r.refusal;
@@ -191,7 +194,8 @@ static inline uint32_t tdd_load_plan(tdd_bench *bench, const tdd_channel *plan, 
  * Refuses 3; 4; 7. */
 static inline uint32_t tdd_close(tdd_bench *bench, uint32_t q, uint32_t k) {
     tdd_call_result r = tdd_bench_close(*bench, q, k);
-    *bench = r.bench;
+    if (r.refusal == 0)
+        *bench = r.bench;
     return r.refusal;
 }
 
@@ -199,7 +203,8 @@ static inline uint32_t tdd_close(tdd_bench *bench, uint32_t q, uint32_t k) {
  * Refuses 3; 4; 5; 7. */
 static inline uint32_t tdd_set_gain(tdd_bench *bench, uint32_t q, uint32_t k, uint32_t gain) {
     tdd_call_result r = tdd_bench_set_gain(*bench, q, k, gain);
-    *bench = r.bench;
+    if (r.refusal == 0)
+        *bench = r.bench;
     return r.refusal;
 }
 
@@ -208,7 +213,8 @@ static inline uint32_t tdd_set_gain(tdd_bench *bench, uint32_t q, uint32_t k, ui
  * Refuses 3; 4; 7; 8; 9. */
 static inline uint32_t tdd_load_bits(tdd_bench *bench, uint32_t q, uint32_t k, const uint8_t *bits, size_t count) {
     tdd_call_result r = tdd_bench_load_bits(*bench, q, k, bits, count);
-    *bench = r.bench;
+    if (r.refusal == 0)
+        *bench = r.bench;
     return r.refusal;
 }
 
@@ -216,14 +222,16 @@ static inline uint32_t tdd_load_bits(tdd_bench *bench, uint32_t q, uint32_t k, c
  * Refuses 13; 14; 15; 5 either gain. */
 static inline uint32_t tdd_set_sync(tdd_bench *bench, uint32_t sync_case, uint32_t frame, uint32_t half, uint32_t gp, uint32_t gs) {
     tdd_call_result r = tdd_bench_set_sync(*bench, sync_case, frame, half, gp, gs);
-    *bench = r.bench;
+    if (r.refusal == 0)
+        *bench = r.bench;
     return r.refusal;
 }
 
 /* Sends no sync burst. Refuses nothing. */
 static inline uint32_t tdd_clear_sync(tdd_bench *bench) {
     tdd_call_result r = tdd_bench_clear_sync(*bench);
-    *bench = r.bench;
+    if (r.refusal == 0)
+        *bench = r.bench;
     return r.refusal;
 }
 
@@ -231,7 +239,8 @@ static inline uint32_t tdd_clear_sync(tdd_bench *bench) {
  * Refuses 10. */
 static inline uint32_t tdd_start(tdd_bench *bench) {
     tdd_call_result r = tdd_bench_start(*bench);
-    *bench = r.bench;
+    if (r.refusal == 0)
+        *bench = r.bench;
     return r.refusal;
 }
 
@@ -240,7 +249,8 @@ static inline uint32_t tdd_start(tdd_bench *bench) {
  * Refuses 11; 12. */
 static inline uint32_t tdd_draw(tdd_bench *bench, int32_t *re, size_t re_length, int32_t *im, size_t im_length, size_t *count) {
     tdd_draw_result r = tdd_bench_draw(*bench, re, re_length, im, im_length);
-    *bench = r.bench;
+    if (r.refusal == 0)
+        *bench = r.bench;
     if (count)
         *count = r.count;
     return r.refusal;

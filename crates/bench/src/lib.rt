@@ -17,6 +17,7 @@ use slot::Settings;
 use slot::Sync;
 use slot::field;
 
+pub mod bits;
 mod refusals;
 mod tables;
 mod taken;

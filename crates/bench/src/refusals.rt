@@ -5,8 +5,9 @@ ghost use Rattle.codes.specs.Range.{any};
 ghost use Rattle.codes.specs.Refusals.{number};
 ghost use Rattle.slot.specs.Slot.{bit-count};
 ghost use Rattle.slot.specs.Tables.{view};
-ghost use Rattle.bench.specs.BenchCalls.{bad-gain, close-refusals, has-byte-above-1, load-bits-refusals, open-refusals, set-cell-refusals, set-gain-refusals, set-sync-refusals, some-code};
+ghost use Rattle.bench.specs.BenchCalls.{bad-gain, close-refusals, load-bits-refusals, open-refusals, set-cell-refusals, set-gain-refusals, set-sync-refusals, some-code};
 ghost use Rattle.bench.specs.Held.{clashes, code-refusals, open-at};
+use crate::bits::has_byte_above_1;
 use crate::tables::node;
 use codes::CellParameter;
 use codes::tree;
@@ -139,17 +140,6 @@ fn bit_count(kind: u32, q: u32) -> usize
 {
     let p = parts::parts_of(kind);
     2 * (p.field1 + p.field2) / q as usize
-}
-
-// Whether a byte is above 1. All are looked at, which is faster than stopping at the first.
-fn has_byte_above_1(bits: &[u8]) -> bool
-    ensures { λ r. ⌜ r ≡ has-byte-above-1 (now (bits .entry)) ⌝ }
-{
-    let mut found = false;
-    for i in 0..bits.len() {
-        found = 1 < bits[i] || found;
-    }
-    found
 }
 
 pub fn load_bits(s: Settings, q: u32, k: u32, bits: &[u8]) -> u32

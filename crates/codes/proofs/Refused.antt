@@ -3,10 +3,11 @@ use mathlib.Core.Path.{_≡_, refl, sym, ap, subst, _∙_}
 use mathlib.Core.Logic.{_≢_}
 use mathlib.Core.Bool.{Bool, true, false, _&&_, not, cond}
 use mathlib.Core.List.{List, [], _∷_, _++_}
+use Prim.Native.Nat.{ℕ}
 use lib.Dec.{T, eqb}
 use borrow.Author.Tests.{eq-eqb}
 use mir.Facts.{and-yes}
-use Rattle.codes.specs.Refusals.{Answer, refused, gives, Refusal, _otherwise_, number, outcome, refusal-of}
+use Rattle.codes.specs.Refusals.{Answer, refused, gives, Refusal, _otherwise_, number, outcome, after, refusal-of}
 
 -- no refusal of the list has number 0
 unfoldable pub numbered : List Refusal → Bool
@@ -59,18 +60,28 @@ pub passed-early : (rs qs : List Refusal) → Passed rs → number (rs ++ qs) �
 passed-early [] qs p = refl
 passed-early (r ∷ rs) qs p = rw (p .0) (passed-early rs qs (p .1))
 
--- ---- an answer as a C struct holds it: its refusal's number or 0
+-- ---- an answer as a C struct holds it: its refusal's number or 0, and a field f, or z where it is refused
+module _ {A B : Type 0} (z : B) (f : A → B) where
+  pub held-given : {a : Answer A} {x : A} → gives x ≡ a → (0 ≡ refusal-of a) × (f x ≡ after a z f)
+  held-given e = (ap refusal-of e, ap (λ b. after b z f) e)
+
+  pub held-refused : {a : Answer A} {n : ℕ} → refused n ≡ a → (n ≡ refusal-of a) × (z ≡ after a z f)
+  held-refused e = (ap refusal-of e, ap (λ b. after b z f) e)
+
 pub refusal-of-outcome : {A : Type 0} (a : Answer A) → refusal-of (outcome a) ≡ refusal-of a
 refusal-of-outcome (refused n) = refl
 refusal-of-outcome (gives x) = refl
 
--- 0 is given for an accepted call alone
-pub accepted-alone : {A : Type 0} {a : A} (rs : List Refusal) → T (numbered rs) → refusal-of (rs otherwise a) ≡ 0 → rs otherwise a ≡ gives a
-accepted-alone {a} rs t e = accepted a rs t (sym (refusal-number rs) ∙ e)
+-- 0 is answered for an accepted call alone
+abbrev pub ZeroAccepts : {A : Type 0} → Answer A → Type 0
+ZeroAccepts a = refusal-of a ≡ 0 → outcome a ≡ gives tt
+
+pub 0-accepts : {A : Type 0} (a : A) (rs : List Refusal) → T (numbered rs) → ZeroAccepts (rs otherwise a)
+0-accepts a rs t e = ap outcome (accepted a rs t (sym (as-number rs) ∙ e))
   where
-    refusal-number : (qs : List Refusal) → refusal-of (qs otherwise a) ≡ number qs
-    refusal-number [] = refl
-    refusal-number (q ∷ qs) = go (q .condition) (refusal-number qs)
+    as-number : (qs : List Refusal) → refusal-of (qs otherwise a) ≡ number qs
+    as-number [] = refl
+    as-number (q ∷ qs) = go (q .condition) (as-number qs)
       where
         go : (b : Bool) → refusal-of (qs otherwise a) ≡ number qs → refusal-of (cond b (refused (q .number)) (qs otherwise a)) ≡ cond b (q .number) (number qs)
         go true h = refl

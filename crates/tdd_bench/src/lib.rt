@@ -235,7 +235,7 @@ pub extern "C" fn tdd_harden(re: &[i32], im: &[i32], bits: &mut [u8]) -> u32
     let answer = analyser::harden(re, im, bits);
     match answer {
         HardenAnswer::Hardened => 0,
-        HardenAnswer::Refused(n) => n,
+        HardenAnswer::Refused(number) => number,
     }
 }
 
@@ -283,8 +283,8 @@ pub extern "C" fn tdd_find(
             start: p.start,
             size: p.size,
         },
-        FindAnswer::Refused(n) => FindResult {
-            refusal: n,
+        FindAnswer::Refused(number) => FindResult {
+            refusal: number,
             start: 0,
             size: 0,
         },

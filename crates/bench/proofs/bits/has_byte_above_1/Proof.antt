@@ -9,8 +9,8 @@ use borrow.Author.Tests.{lt-ltb, le-ltb}
 use lib.Dec.{ltb}
 use lib.ListN.{length, getD}
 use Rattle.codes.specs.Range.{any}
-use Rattle.bench.proofs.refusals.has_byte_above_1.Statement.{statement}
-use Rattle.bench.proofs.refusals.has_byte_above_1.Tie as tie
+use Rattle.bench.proofs.bits.has_byte_above_1.Statement.{statement}
+use Rattle.bench.proofs.bits.has_byte_above_1.Tie as tie
 
 abbrev Inv-loop : tie.InvT-loop
 Inv-loop bits found₀ i₀ i-end found i = (i ≤ length bits) × (found ≡ any i (λ n. ltb 1 (getD bits n 0)))
