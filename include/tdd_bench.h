@@ -28,7 +28,7 @@
  * - a buffer that a call writes overlaps no other buffer of that call, nor the bench;
  * - no other thread uses the bench or a buffer during a call. Calls on different benches may run at once: the library keeps nothing.
  *
- * Two benches are compared field by field, not by memcmp: there are unused bytes between the fields.
+ * Two benches are compared field by field, and not by memcmp or a digest of their bytes: the unused bytes between the fields may hold anything.
  */
 #ifndef TDD_BENCH_H
 #define TDD_BENCH_H
