@@ -11,8 +11,8 @@ fn main() {
             "{} is not there: `make libraries` in the repository's root makes it",
             archive.display()
         );
-        println!("cargo:rerun-if-changed={}", archive.display());
         println!("cargo:rustc-link-lib=static={name}");
     }
+    println!("cargo:rerun-if-changed={}", libraries.display());
     println!("cargo:rustc-link-search=native={}", libraries.display());
 }

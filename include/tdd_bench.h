@@ -18,17 +18,20 @@
  *      9  a byte above 1                      19  no candidate beats all others
  *     10  slot under way
  *
- * A refused call leaves the bench and every buffer as they were. An accepted one writes what its comment says and leaves later entries as they were.
+ * A refused call leaves the bench and every buffer as they were. An accepted one writes what its comment says and leaves later entries as they were. The
+ * place of load plan and the count of draw are written either way.
  * While a slot is under way, calls change the settings of the next one: a slot keeps those of its start.
  *
  * What the host owes; nothing checks it:
  * - a pointer to a bench points to one: what tdd_bench_fresh gave, or any bytes of that size and alignment. Every pattern of bytes is a bench, and every
  *   call on it ends and stays within what it was lent;
  * - each buffer has as many entries as its length says (one of length 0 may be a null pointer), and is aligned as its type asks;
- * - a buffer that a call writes overlaps no other buffer of that call, nor the bench;
- * - no other thread uses the bench or a buffer during a call. Calls on different benches may run at once: the library keeps nothing.
+ * - what a call writes (the chips of a draw, answer buffers, scratch, place, count) overlaps nothing else that it was given, nor the bench;
+ * - no other thread uses the bench or a buffer during a call. Calls on different benches may run at once: the library keeps nothing;
+ * - some 48 KB of stack: a bench is 4.6 KB, and goes by value.
  *
- * Two benches are compared field by field, and not by memcmp or a digest of their bytes: the unused bytes between the fields may hold anything.
+ * Benches whose fields are equal are the same bench. Do not compare by memcmp or a digest of the bytes: the unused bytes between the fields may hold
+ * anything. Benches whose fields differ may still answer alike: what a closed code or a slot that has ended left behind is not seen.
  */
 #ifndef TDD_BENCH_H
 #define TDD_BENCH_H
@@ -52,8 +55,8 @@ typedef struct {
     uint16_t gs;
 } tdd_sync;
 
-/* Code (q, k) has its gain at gains[q - 1 + k], 0 where it is not open. A pair of bits is one number, 0 to 3, block by block of 16 chips, both fields in
- * a row: in a block code (q, k) owns 16/q entries from k * 16/q on. */
+/* Code (q, k) has its gain at gains[q - 1 + k], 0 where it is not open. A pair of bits is one number, twice the first bit and the second, block by block
+ * of 16 chips, both fields in a row: in a block code (q, k) owns 16/q entries from k * 16/q on. */
 typedef struct {
     uint32_t cell;
     uint32_t kind;
@@ -98,7 +101,8 @@ typedef struct {
     tdd_bench bench;
 } tdd_draw_result;
 
-/* At most 16 codes can be open together, so in a longer plan one of the first 17 records fails: they decide. */
+/* At most 16 codes can be open together, so in a longer plan one of the first 17 records fails: they decide. A plan is the first `count` of them, or all 17
+ * where `count` is larger. */
 typedef struct {
     tdd_channel records[17];
 } tdd_plan_records;

@@ -1,7 +1,7 @@
 #!/bin/sh
 # Each function that a host's library exports carries the contract of the call behind it. This test holds the texts to each other, export by export: the
 # definition that the call's own contract equates its answer with, arguments and all, is the one that every clause of the export speaks of, in the form due
-# for its kind of answer. Every export is compared, has no `requires`, and is declared in its header.
+# for its kind of answer; the parameters of call, export and header's declaration are the same, in one order. Every export is compared and has no `requires`.
 # With an argument, that folder is tested in place of this repository.
 set -eu
 root=${1:-$(cd "$(dirname "$0")/.." && pwd)}
@@ -33,29 +33,64 @@ definition() {
     }'
 }
 
-compared=0
-# export FILE CALL CRATE NAME CLAUSES: the call, its export, and the clauses due, with CALL for the definition
-export_of() {
-    call="($(definition "$1" "$2" | renamed "$4"))"
-    found=$(ensured "crates/$3/src/lib.rt" "$4")
-    due=$(printf '%s\n' "$5" | awk -v call="$call" '{ while ((at = index($0, "CALL")) > 0) $0 = substr($0, 1, at - 1) call substr($0, at + 4); print }')
-    [ "$found" = "$due" ] || fail "what $4 ensures in crates/$3/src/lib.rt is
-$found
-and should be
-$due"
-    grep -q "[ *]$4(" "$root/include/$3.h" || fail "include/$3.h does not declare $4"
-    compared=$((compared + 1))
-    echo "export-contracts: $4 carries the contract of $2"
+# The parameters of a function in the order of its signature, a word each, but for the bench: parameters FILE NAME
+parameters() {
+    awk -v name="$2" '
+        index($0, "fn " name "(") { inside = 1 }
+        inside { text = text $0 }
+        inside && /[)] ->/ { exit }
+        END { sub(/^[^(]*[(]/, "", text); sub(/[)] ->.*/, "", text); print text }' "$root/$1" | tr ',' '\n' |
+        sed -n '/self$/d; s/^ *\([a-z0-9]*\): .*/\1/p' | grep -vx bench | paste -s -d ' ' -
+}
+
+# The parameters that a header declares for an export, by their names in Rattle: a buffer counts as one. declared HEADER NAME
+declared() {
+    text=$(awk -v name="$2" '
+        /^[a-z]/ && index($0, " " name "(") { inside = 1 }
+        inside { printf "%s", $0 }
+        inside && /;$/ { exit }' "$root/$1")
+    [ -n "$text" ] || fail "$1 does not declare $2"
+    printf '%s\n' "$text" | sed 's/^[^(]*(//; s/);$//' | tr ',' '\n' |
+        sed '/_length$/d; s/.*[ *]//; s/^void$//; s/sync_case/case/; s/scratch_/sum/; s/out_/out/' | grep -vx bench | paste -s -d ' ' -
 }
 
 # An export may have another name for a parameter than its call.
 renamed() {
     case $1 in
-    tdd_code_group) sed 's/ p$/ cell/' ;;
-    tdd_secondary_chip) sed 's/ n$/ chip/' ;;
-    tdd_burst_start) sed 's/ g$/ group/' ;;
+    tdd_code_group) sed 's/\bp$/cell/' ;;
+    tdd_secondary_chip) sed 's/\bn$/chip/' ;;
+    tdd_burst_start) sed 's/\bg$/group/' ;;
     *) cat ;;
     esac
+}
+
+# same WHAT FOUND DUE
+same() {
+    [ "$2" = "$3" ] || fail "$1:
+$2
+and should be
+$3"
+}
+
+compared=0
+# in_order FILE CALL CRATE NAME: call, export and header have the same parameters in one order
+in_order() {
+    due=$(parameters "$1" "$2" | renamed "$4")
+    same "the parameters of $4 in crates/$3/src/lib.rt are" "$(parameters "crates/$3/src/lib.rt" "$4")" "$due"
+    # C gives the bits of a load their length by this name
+    [ "$4" != tdd_bench_load_bits ] || due="$due count"
+    found=$(declared "include/$3.h" "$4")
+    same "the parameters of $4 in include/$3.h are" "$found" "$due"
+    compared=$((compared + 1))
+}
+
+# export_of FILE CALL CRATE NAME CLAUSES: the call, its export, and the clauses due, with CALL for the definition
+export_of() {
+    in_order "$1" "$2" "$3" "$4"
+    call="($(definition "$1" "$2" | renamed "$4"))"
+    due=$(printf '%s\n' "$5" | awk -v call="$call" '{ while ((at = index($0, "CALL")) > 0) $0 = substr($0, 1, at - 1) call substr($0, at + 4); print }')
+    same "what $4 ensures in crates/$3/src/lib.rt is" "$(ensured "crates/$3/src/lib.rt" "$4")" "$due"
+    echo "export-contracts: $4 carries the contract of $2"
 }
 
 clause() {
@@ -76,9 +111,8 @@ $(clause count 'r .count ≡ after CALL 0 (λ d. d .count)')
 $(clause bench 'r .bench ≡ after CALL bench (λ d. d .bench)')
 $(clause real 'now (re .exit) ≡ after CALL (now (re .entry)) (λ d. written (d .chips .re) (now (re .entry)))')
 $(clause imaginary 'now (im .exit) ≡ after CALL (now (im .entry)) (λ d. written (d .chips .im) (now (im .entry)))')"
-fresh=$(ensured $bench fresh)
-[ "$(ensured crates/tdd_bench/src/lib.rt tdd_bench_fresh)" = "$fresh" ] || fail "tdd_bench_fresh does not ensure what fresh does: $fresh"
-compared=$((compared + 1))
+in_order $bench fresh tdd_bench tdd_bench_fresh
+same "what tdd_bench_fresh ensures in crates/tdd_bench/src/lib.rt is" "$(ensured crates/tdd_bench/src/lib.rt tdd_bench_fresh)" "$(ensured $bench fresh)"
 
 # The analyser answers a number, or a struct of numbers.
 export_of crates/analyser/src/lib.rt read tdd_bench tdd_read "$(clause refusal 'r ≡ refusal-of CALL')

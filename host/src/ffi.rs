@@ -1,5 +1,5 @@
-//! The libraries' own functions and structs, as include/tdd_bench.h and include/tdd_codes.h declare them. Nothing but numbers is in a struct, so every
-//! pattern of bytes is a value of it.
+//! The libraries' own functions and structs, as include/tdd_bench.h and include/tdd_codes.h declare them; the headers say what a caller owes. Nothing but
+//! numbers is in a struct, so every pattern of bytes is a value of it.
 
 #[repr(C)]
 #[derive(Clone, Copy, Debug, PartialEq, Eq)]
@@ -153,8 +153,8 @@ pub struct StartResult {
     pub start: u32,
 }
 
-// Calls without a pointer are safe: they take any numbers. Of a pointer the caller owes as many entries as the length beside it says, and that what is
-// written overlaps nothing else that the call was given.
+// Calls without a pointer are safe: they take any numbers. Of a pointer the caller owes that it is aligned, that as many entries are there as the length
+// beside it says, and that what is written overlaps nothing else that the call was given.
 unsafe extern "C" {
     pub safe fn tdd_bench_fresh() -> Bench;
     pub safe fn tdd_bench_set_cell(bench: Bench, cell: u32, kind: u32) -> CallResult;

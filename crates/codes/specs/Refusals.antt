@@ -33,7 +33,7 @@ abbrev pub after : {A B : Type 0} → Answer A → B → (A → B) → B
 after (refused n) b f = b
 after (gives a) b f = f a
 
--- ---- an answer as a C struct holds it: the refusal's number, or 0 (law `0-accepts`: no call refuses with 0). A field that a refusal does not
+-- ---- an answer as a C struct holds it: the refusal's number, or 0, which no list of refusals has. A field that a refusal does not
 -- have is 0 then: `after r 0 ..`.
 abbrev pub refusal-of : {A : Type 0} → Answer A → ℕ
 refusal-of (refused n) = n

@@ -14,7 +14,6 @@ pub mod tree;
 #[repr(C)]
 pub struct CellParameter(pub u32);
 
-#[repr(C)]
 pub struct CodeGroup(pub u32);
 
 pub enum ElementAnswer {

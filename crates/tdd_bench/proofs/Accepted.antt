@@ -13,7 +13,7 @@ use Rattle.sync_analyser.specs.Finding.{find-call, find-refusals}
 use Rattle.slot.specs.Tables.{view}
 use Rattle.bench.specs.declared.Bench.{Bench}
 use Rattle.bench.specs.declared.Channel.{Channel}
-use Rattle.bench.specs.BenchCalls.{AnswerAt, refused-at, loads, close-call, close-refusals, draw-call, draw-refusals, load-bits-call, load-bits-refusals, load-plan-call, open-call, open-refusals, opened-in-turn, plan-outcome, set-cell-call, set-cell-refusals, set-gain-call, set-gain-refusals, set-sync-call, set-sync-refusals, start-call, under-way}
+use Rattle.bench.specs.BenchCalls.{AnswerAt, refused-at, loads, clear-sync-call, close-call, close-refusals, draw-call, draw-refusals, load-bits-call, load-bits-refusals, load-plan-call, open-call, open-refusals, opened-in-turn, plan-outcome, set-cell-call, set-cell-refusals, set-gain-call, set-gain-refusals, set-sync-call, set-sync-refusals, start-call, under-way}
 use Rattle.bench.specs.Changes.{all-closed, with-settings}
 use Rattle.tdd_bench.specs.PlanResults.{plan-refusal-of}
 
@@ -41,6 +41,9 @@ module _ (b : Bench) where
   pub set-sync-0 : (case frame half gP gS : ℕ) → ZeroAccepts (set-sync-call b case frame half gP gS)
   unfolding numbered
   set-sync-0 case frame half gP gS = 0-accepts _ (set-sync-refusals (view (b .settings)) case frame half gP gS) tt
+
+  pub clear-sync-0 : ZeroAccepts (clear-sync-call b)
+  clear-sync-0 e = refl
 
   pub start-0 : ZeroAccepts (start-call b)
   unfolding numbered

@@ -15,11 +15,7 @@ fn check_lengths(re: &[i32], im: &[i32]) -> Result<(), u32> {
 
 /// "17 a component outside -100000 to 100000"
 fn check_components(re: &[i32], im: &[i32]) -> Result<(), u32> {
-    if re
-        .iter()
-        .chain(im)
-        .any(|component| !(-100_000..=100_000).contains(component))
-    {
+    if re.iter().chain(im).any(|component| !(-100_000..=100_000).contains(component)) {
         return Err(17);
     }
     Ok(())
@@ -27,11 +23,7 @@ fn check_components(re: &[i32], im: &[i32]) -> Result<(), u32> {
 
 /// Entry n of a re and an im buffer.
 fn entry(re: &[i32], im: &[i32], n: usize) -> Wide {
-    Complex {
-        re: re[n],
-        im: im[n],
-    }
-    .wide()
+    Complex { re: re[n], im: im[n] }.wide()
 }
 
 /// "Read (parameter, Q, k, field, two answer buffers): reading n is the sum over the n-th Q chips
@@ -77,12 +69,7 @@ pub fn read(
 /// "for reading y the pairs 00, 01, 10, 11 score im, re, -re, -im; the largest wins, the earliest
 /// on a tie"
 fn harden_one(y: Wide) -> [u8; 2] {
-    let scores = [
-        ([0, 0], y.im),
-        ([0, 1], y.re),
-        ([1, 0], -y.re),
-        ([1, 1], -y.im),
-    ];
+    let scores = [([0, 0], y.im), ([0, 1], y.re), ([1, 0], -y.re), ([1, 1], -y.im)];
     let (mut pair, mut largest) = scores[0];
     for (next, score) in scores {
         if score > largest {
@@ -165,9 +152,7 @@ pub fn read_sync(case: u32, re: &[i32], im: &[i32]) -> Result<Candidate, u32> {
         scored.push((candidate, score));
     }
     for &(candidate, score) in &scored {
-        let beats_every_other = scored
-            .iter()
-            .all(|&(other, other_score)| other == candidate || score > other_score);
+        let beats_every_other = scored.iter().all(|&(other, other_score)| other == candidate || score > other_score);
         if beats_every_other {
             return Ok(candidate);
         }
@@ -186,12 +171,7 @@ pub struct Peak {
 /// the largest squared size, and that size as computed from the chips. Refuses 12; 16 n below 256
 /// or above 5120; 17; 18 a scratch buffer shorter than n-15. After an accepted find the scratch
 /// contents are free." This one leaves them.
-pub fn find(
-    re: &[i32],
-    im: &[i32],
-    scratch_re: &mut [i32],
-    scratch_im: &mut [i32],
-) -> Result<Peak, u32> {
+pub fn find(re: &[i32], im: &[i32], scratch_re: &mut [i32], scratch_im: &mut [i32]) -> Result<Peak, u32> {
     check_lengths(re, im)?;
     let n = re.len();
     if !(256..=5120).contains(&n) {

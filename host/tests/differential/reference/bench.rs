@@ -39,11 +39,7 @@ fn check_gain(gain: u32) -> Result<(), u32> {
 
 /// Opens one code among `open`: bits all 0. "Refuses 3 bad Q; 4 k not below Q; 5 gain not 1 to
 /// 4095; 6 related to an open code."
-fn open_among(
-    open: &mut BTreeMap<(u32, u32), OpenCode>,
-    kind: u32,
-    channel: Channel,
-) -> Result<(), u32> {
+fn open_among(open: &mut BTreeMap<(u32, u32), OpenCode>, kind: u32, channel: Channel) -> Result<(), u32> {
     let Channel { q, k, gain } = channel;
     check_code(q, k)?;
     check_gain(gain)?;
@@ -60,15 +56,7 @@ fn open_among(
 impl Bench {
     /// "Fresh: parameter 0, type 1, nothing open, no sync, no slot."
     pub fn fresh() -> Bench {
-        Bench {
-            settings: Settings {
-                cell: 0,
-                kind: 1,
-                open: BTreeMap::new(),
-                sync: None,
-            },
-            air: None,
-        }
+        Bench { settings: Settings { cell: 0, kind: 1, open: BTreeMap::new(), sync: None }, air: None }
     }
 
     /// The open code (Q, k). "7 code not open"
@@ -83,12 +71,7 @@ impl Bench {
         if ![1, 2, 3].contains(&kind) {
             return Err(2);
         }
-        self.settings = Settings {
-            cell,
-            kind,
-            open: BTreeMap::new(),
-            sync: None,
-        };
+        self.settings = Settings { cell, kind, open: BTreeMap::new(), sync: None };
         Ok(())
     }
 
@@ -144,14 +127,7 @@ impl Bench {
 
     /// "Set sync (case, frame, half, gP, gS); the group is the cell's. Refuses 13 type not 1; 14
     /// case not 1 or 2; 15 frame not 1 or 2, half above 1, or half 1 in case 1; 5 either gain."
-    pub fn set_sync(
-        &mut self,
-        case: u32,
-        frame: u32,
-        half: u32,
-        gp: u32,
-        gs: u32,
-    ) -> Result<(), u32> {
+    pub fn set_sync(&mut self, case: u32, frame: u32, half: u32, gp: u32, gs: u32) -> Result<(), u32> {
         if self.settings.kind != 1 {
             return Err(13);
         }
@@ -159,13 +135,7 @@ impl Bench {
         check_timing(case, frame, half)?;
         check_gain(gp)?;
         check_gain(gs)?;
-        self.settings.sync = Some(Sync {
-            case,
-            frame,
-            half,
-            gp,
-            gs,
-        });
+        self.settings.sync = Some(Sync { case, frame, half, gp, gs });
         Ok(())
     }
 
@@ -180,10 +150,7 @@ impl Bench {
         if self.air.is_some() {
             return Err(10);
         }
-        self.air = Some(Air {
-            settings: self.settings.clone(),
-            position: 0,
-        });
+        self.air = Some(Air { settings: self.settings.clone(), position: 0 });
         Ok(())
     }
 

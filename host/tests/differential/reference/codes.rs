@@ -117,8 +117,7 @@ fn scramble_row(row: &str) -> Vec<Complex> {
 }
 
 /// The complex scrambling codes by cell parameter.
-static SCRAMBLING: LazyLock<Vec<Vec<Complex>>> =
-    LazyLock::new(|| ROWS.iter().map(|row| scramble_row(row)).collect());
+static SCRAMBLING: LazyLock<Vec<Vec<Complex>>> = LazyLock::new(|| ROWS.iter().map(|row| scramble_row(row)).collect());
 
 /// The complex scrambling code of a cell parameter, which must be one.
 pub(super) fn scrambling_code(cell: u32) -> &'static [Complex] {

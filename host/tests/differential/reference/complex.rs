@@ -18,10 +18,7 @@ pub(super) const J: Complex = Complex { re: 0, im: 1 };
 impl Complex {
     /// The same value for sums and products.
     pub(super) fn wide(self) -> Wide {
-        Wide {
-            re: self.re.into(),
-            im: self.im.into(),
-        }
+        Wide { re: self.re.into(), im: self.im.into() }
     }
 }
 
@@ -29,10 +26,7 @@ impl Neg for Complex {
     type Output = Complex;
 
     fn neg(self) -> Complex {
-        Complex {
-            re: -self.re,
-            im: -self.im,
-        }
+        Complex { re: -self.re, im: -self.im }
     }
 }
 
@@ -49,10 +43,7 @@ pub(super) const ZERO: Wide = Wide { re: 0, im: 0 };
 impl Wide {
     /// "conj the conjugate"
     pub(super) fn conj(self) -> Wide {
-        Wide {
-            re: self.re,
-            im: -self.im,
-        }
+        Wide { re: self.re, im: -self.im }
     }
 
     /// The same value in 32 bits. Every chip and reading fits.
@@ -68,10 +59,7 @@ impl Add for Wide {
     type Output = Wide;
 
     fn add(self, other: Wide) -> Wide {
-        Wide {
-            re: self.re + other.re,
-            im: self.im + other.im,
-        }
+        Wide { re: self.re + other.re, im: self.im + other.im }
     }
 }
 
@@ -79,10 +67,7 @@ impl Mul for Wide {
     type Output = Wide;
 
     fn mul(self, other: Wide) -> Wide {
-        Wide {
-            re: self.re * other.re - self.im * other.im,
-            im: self.re * other.im + self.im * other.re,
-        }
+        Wide { re: self.re * other.re - self.im * other.im, im: self.re * other.im + self.im * other.re }
     }
 }
 
@@ -91,9 +76,6 @@ impl Mul<Wide> for i64 {
     type Output = Wide;
 
     fn mul(self, other: Wide) -> Wide {
-        Wide {
-            re: self * other.re,
-            im: self * other.im,
-        }
+        Wide { re: self * other.re, im: self * other.im }
     }
 }

@@ -115,11 +115,7 @@ fn sync_chip(settings: &Settings, position: usize) -> Wide {
     };
     let group = code_group(settings.cell).expect("a cell parameter");
     let start = burst_start(group).expect("a code group") as usize;
-    if position >= start && position < start + BURST {
-        burst_chip(settings.cell, sync, position - start)
-    } else {
-        ZERO
-    }
+    if position >= start && position < start + BURST { burst_chip(settings.cell, sync, position - start) } else { ZERO }
 }
 
 /// "The slot's chip is the sum over open channels, plus the sync burst where it falls."

@@ -21,10 +21,7 @@ pub(super) const NUMBERS: [u32; 12] = [0, 1, 3, 4, 5, 6, 8, 10, 12, 13, 14, 15];
 
 /// A sequence of 16 repeated 16 times with signs.
 fn repeat(sequence: [i32; 16], signs: [i32; 16]) -> Vec<i32> {
-    signs
-        .iter()
-        .flat_map(|sign| sequence.map(|element| sign * element))
-        .collect()
+    signs.iter().flat_map(|sign| sequence.map(|element| sign * element)).collect()
 }
 
 /// "(1+j) times" a real sequence.
@@ -53,10 +50,7 @@ pub(super) fn hadamard(m: u32, n: u32) -> i32 {
 /// "Ci is (1+j) times z times row 16i of the 256-row Hadamard matrix"
 fn make_secondary(i: u32) -> Vec<Complex> {
     let z = repeat(b(), B_SIGNS);
-    let product: Vec<i32> = (0..256)
-        .zip(&z)
-        .map(|(n, z)| z * hadamard(16 * i, n))
-        .collect();
+    let product: Vec<i32> = (0..256).zip(&z).map(|(n, z)| z * hadamard(16 * i, n)).collect();
     one_plus_j(&product)
 }
 
@@ -166,18 +160,9 @@ fn case_1(g: u32, frame: u32) -> [Modulated; 3] {
         _ => (true, true),
     };
     [
-        Modulated {
-            code: first,
-            unit: signed(first_negative, unit),
-        },
-        Modulated {
-            code: second,
-            unit: signed(second_negative, unit),
-        },
-        Modulated {
-            code: marker,
-            unit: signed(frame == 2, ONE),
-        },
+        Modulated { code: first, unit: signed(first_negative, unit) },
+        Modulated { code: second, unit: signed(second_negative, unit) },
+        Modulated { code: marker, unit: signed(frame == 2, ONE) },
     ]
 }
 
@@ -190,18 +175,9 @@ fn case_2(g: u32, frame: u32, half: u32) -> [Modulated; 3] {
     let first_unit = unit;
     let second_unit = signed(r % 2 == 1, unit);
     [
-        Modulated {
-            code: first,
-            unit: signed(frame == 2, first_unit),
-        },
-        Modulated {
-            code: second,
-            unit: signed(frame == 2, second_unit),
-        },
-        Modulated {
-            code: marker,
-            unit: signed(half == 1, ONE),
-        },
+        Modulated { code: first, unit: signed(frame == 2, first_unit) },
+        Modulated { code: second, unit: signed(frame == 2, second_unit) },
+        Modulated { code: marker, unit: signed(half == 1, ONE) },
     ]
 }
 
@@ -220,9 +196,5 @@ pub fn allocation(case: u32, group: u32, frame: u32, half: u32) -> Result<[Modul
 /// "starting at chip 48g for g below 16 and 720 + 48g from 16 on". Refuses 1.
 pub fn burst_start(group: u32) -> Result<u32, u32> {
     check_group(group)?;
-    Ok(if group < 16 {
-        48 * group
-    } else {
-        720 + 48 * group
-    })
+    Ok(if group < 16 { 48 * group } else { 720 + 48 * group })
 }

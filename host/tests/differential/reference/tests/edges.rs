@@ -1,8 +1,8 @@
 //! Document 01, "Tests at the edges", and the bounds of the other refusals.
 
 use super::super::{
-    Bench, Candidate, Channel, Peak, allocation, burst_start, code_group, element, find, harden,
-    primary_chip, read, read_sync, scrambling_chip, secondary_chip,
+    Bench, Candidate, Channel, Peak, allocation, burst_start, code_group, element, find, harden, primary_chip, read,
+    read_sync, scrambling_chip, secondary_chip,
 };
 
 const FACTORS: [u32; 5] = [1, 2, 4, 8, 16];
@@ -79,11 +79,8 @@ fn each_scratch_buffer_counts() {
 
 #[test]
 fn bit_counts() {
-    let counts = [
-        (1, [3904, 1952, 976, 488, 244]),
-        (2, [4416, 2208, 1104, 552, 276]),
-        (3, [3712, 1856, 928, 464, 232]),
-    ];
+    let counts =
+        [(1, [3904, 1952, 976, 488, 244]), (2, [4416, 2208, 1104, 552, 276]), (3, [3712, 1856, 928, 464, 232])];
     for (kind, by_factor) in counts {
         for (q, count) in FACTORS.into_iter().zip(by_factor) {
             let mut bench = Bench::fresh();
@@ -179,14 +176,9 @@ fn field_lengths_to_read() {
 
 #[test]
 fn components_to_100000() {
-    for (component, fits) in [
-        (100_000, true),
-        (-100_000, true),
-        (100_001, false),
-        (-100_001, false),
-        (i32::MAX, false),
-        (i32::MIN, false),
-    ] {
+    for (component, fits) in
+        [(100_000, true), (-100_000, true), (100_001, false), (-100_001, false), (i32::MAX, false), (i32::MIN, false)]
+    {
         let zeros = [0; 256];
         let mut chips = [0; 256];
         chips[255] = component;
@@ -278,13 +270,7 @@ fn equal_peaks_give_the_smallest_start() {
             im[start + chip as usize] = 7 * primary.im;
         }
     }
-    assert_eq!(
-        find(&re, &im, &mut [0; 1985], &mut [0; 1985]),
-        Ok(Peak {
-            start: 300,
-            size: (7 * 512) * (7 * 512)
-        })
-    );
+    assert_eq!(find(&re, &im, &mut [0; 1985], &mut [0; 1985]), Ok(Peak { start: 300, size: (7 * 512) * (7 * 512) }));
 }
 
 #[test]
@@ -296,11 +282,7 @@ fn a_phase_turn_leaves_the_candidate() {
     let start = burst_start(19).unwrap() as usize;
     let (re, im) = (&re[start..start + 256], &im[start..start + 256]);
     let turned: Vec<i32> = im.iter().map(|x| -x).collect();
-    let expected = Ok(Candidate {
-        group: 19,
-        frame: 2,
-        half: 0,
-    });
+    let expected = Ok(Candidate { group: 19, frame: 2, half: 0 });
     assert_eq!(read_sync(2, re, im), expected);
     assert_eq!(read_sync(2, &turned, re), expected);
 }

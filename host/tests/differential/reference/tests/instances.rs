@@ -1,8 +1,8 @@
 //! Document 01, "Proved table of instances", by number.
 
 use super::super::{
-    Bench, Modulated, allocation, burst_start, element, harden, primary_chip, read, related,
-    scrambling_chip, secondary_chip,
+    Bench, Modulated, allocation, burst_start, element, harden, primary_chip, read, related, scrambling_chip,
+    secondary_chip,
 };
 use super::{complex, draw_slot};
 
@@ -88,34 +88,17 @@ fn instance_7() {
 }
 
 fn modulated(code: u32, re: i32, im: i32) -> Modulated {
-    Modulated {
-        code,
-        unit: complex(re, im),
-    }
+    Modulated { code, unit: complex(re, im) }
 }
 
 #[test]
 fn instance_8() {
-    assert_eq!(
-        allocation(1, 31, 2, 0),
-        Ok([
-            modulated(13, 0, -1),
-            modulated(14, 0, -1),
-            modulated(10, -1, 0)
-        ])
-    );
+    assert_eq!(allocation(1, 31, 2, 0), Ok([modulated(13, 0, -1), modulated(14, 0, -1), modulated(10, -1, 0)]));
 }
 
 #[test]
 fn instance_9() {
-    assert_eq!(
-        allocation(2, 9, 2, 1),
-        Ok([
-            modulated(10, -1, 0),
-            modulated(13, 1, 0),
-            modulated(14, -1, 0)
-        ])
-    );
+    assert_eq!(allocation(2, 9, 2, 1), Ok([modulated(10, -1, 0), modulated(13, 1, 0), modulated(14, -1, 0)]));
 }
 
 #[test]

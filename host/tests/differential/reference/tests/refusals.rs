@@ -1,9 +1,7 @@
 //! The order of every call's refusals, each call made with the wrongs that remain after the earlier
 //! ones are put right, and nothing changed by any of them.
 
-use super::super::{
-    Bench, Channel, allocation, element, find, harden, read, read_sync, related, scrambling_chip,
-};
+use super::super::{Bench, Channel, allocation, element, find, harden, read, read_sync, related, scrambling_chip};
 
 /// A bench with codes, bits and sync, and a slot partly drawn.
 fn busy_bench() -> Bench {
@@ -28,11 +26,7 @@ fn busy_type_2() -> Bench {
 }
 
 /// The call refuses and the bench stays.
-fn refused<E: PartialEq + std::fmt::Debug>(
-    bench: &Bench,
-    number: E,
-    call: impl FnOnce(&mut Bench) -> Result<(), E>,
-) {
+fn refused<E: PartialEq + std::fmt::Debug>(bench: &Bench, number: E, call: impl FnOnce(&mut Bench) -> Result<(), E>) {
     let mut after = bench.clone();
     assert_eq!(call(&mut after), Err(number));
     assert_eq!(&after, bench);
@@ -69,16 +63,10 @@ fn load_plan() {
     refused(&bench, (4, 1), |b| b.load_plan(&[good, record(4, 4, 0)]));
     refused(&bench, (5, 1), |b| b.load_plan(&[good, record(4, 1, 0)]));
     refused(&bench, (6, 1), |b| b.load_plan(&[good, record(4, 1, 1)]));
-    refused(&bench, (6, 2), |b| {
-        b.load_plan(&[good, record(4, 0, 1), record(1, 0, 1)])
-    });
+    refused(&bench, (6, 2), |b| b.load_plan(&[good, record(4, 0, 1), record(1, 0, 1)]));
     // The first record that fails, whatever its number.
-    refused(&bench, (6, 1), |b| {
-        b.load_plan(&[good, record(16, 5, 1), record(3, 0, 0)])
-    });
-    refused(&bench, (5, 0), |b| {
-        b.load_plan(&[record(4, 1, 0), record(3, 0, 0)])
-    });
+    refused(&bench, (6, 1), |b| b.load_plan(&[good, record(16, 5, 1), record(3, 0, 0)]));
+    refused(&bench, (5, 0), |b| b.load_plan(&[record(4, 1, 0), record(3, 0, 0)]));
     // Codes open before are no bar, and an empty list closes everything.
     let mut after = bench.clone();
     assert_eq!(after.load_plan(&[record(2, 0, 1), record(2, 1, 1)]), Ok(()));

@@ -1,8 +1,6 @@
 //! What the bench makes, the analyser reads back.
 
-use super::super::{
-    Bench, Candidate, burst_start, find, harden, primary_chip, read, read_sync, secondary_chip,
-};
+use super::super::{Bench, Candidate, burst_start, find, harden, primary_chip, read, read_sync, secondary_chip};
 use super::{Random, draw_slot, fields};
 
 /// Codes of mixed spreading factors, none related to another, that fill the tree.
@@ -114,9 +112,7 @@ fn midamble_and_guard_are_0() {
         let (mut bench, _, _) = loaded(&mut random, kind, &[(1, 0)]);
         let (re, im) = draw_slot(&mut bench);
         for position in 0..2560 {
-            let data = fields(kind)
-                .iter()
-                .any(|&(start, length)| position >= start && position < start + length);
+            let data = fields(kind).iter().any(|&(start, length)| position >= start && position < start + length);
             assert_eq!((re[position], im[position]) != (0, 0), data);
         }
     }
@@ -139,11 +135,7 @@ fn burst_alone_gives_its_candidate() {
                             read_sync(case, &re[start..end], &im[start..end]),
                             Ok(Candidate { group, frame, half })
                         );
-                        let around = re[..start]
-                            .iter()
-                            .chain(&re[end..])
-                            .chain(&im[..start])
-                            .chain(&im[end..]);
+                        let around = re[..start].iter().chain(&re[end..]).chain(&im[..start]).chain(&im[end..]);
                         assert!(around.into_iter().all(|&x| x == 0));
                     }
                 }

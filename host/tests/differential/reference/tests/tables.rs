@@ -2,9 +2,7 @@
 //! constructions of clauses 6.2 and 7.1 and Annex B.
 
 use super::super::sync_codes::hadamard;
-use super::super::{
-    Complex, Modulated, allocation, element, primary_chip, related, scrambling_chip, secondary_chip,
-};
+use super::super::{Complex, Modulated, allocation, element, primary_chip, related, scrambling_chip, secondary_chip};
 
 /// Table 4, case 1: code group, then the codes of frame 1 and of frame 2.
 const TABLE_4: &[(u32, &str)] = &[
@@ -44,30 +42,12 @@ const TABLE_5: &[(u32, &str)] = &[
     (7, "jC3 -jC5 C1 jC3 -jC5 -C1 -jC3 jC5 C1 -jC3 jC5 -C1"),
     (8, "C10 C13 C14 C10 C13 -C14 -C10 -C13 C14 -C10 -C13 -C14"),
     (9, "C10 -C13 C14 C10 -C13 -C14 -C10 C13 C14 -C10 C13 -C14"),
-    (
-        10,
-        "jC10 jC13 C14 jC10 jC13 -C14 -jC10 -jC13 C14 -jC10 -jC13 -C14",
-    ),
-    (
-        11,
-        "jC10 -jC13 C14 jC10 -jC13 -C14 -jC10 jC13 C14 -jC10 jC13 -C14",
-    ),
-    (
-        12,
-        "jC10 jC14 C13 jC10 jC14 -C13 -jC10 -jC14 C13 -jC10 -jC14 -C13",
-    ),
-    (
-        13,
-        "jC10 -jC14 C13 jC10 -jC14 -C13 -jC10 jC14 C13 -jC10 jC14 -C13",
-    ),
-    (
-        14,
-        "jC13 jC14 C10 jC13 jC14 -C10 -jC13 -jC14 C10 -jC13 -jC14 -C10",
-    ),
-    (
-        15,
-        "jC13 -jC14 C10 jC13 -jC14 -C10 -jC13 jC14 C10 -jC13 jC14 -C10",
-    ),
+    (10, "jC10 jC13 C14 jC10 jC13 -C14 -jC10 -jC13 C14 -jC10 -jC13 -C14"),
+    (11, "jC10 -jC13 C14 jC10 -jC13 -C14 -jC10 jC13 C14 -jC10 jC13 -C14"),
+    (12, "jC10 jC14 C13 jC10 jC14 -C13 -jC10 -jC14 C13 -jC10 -jC14 -C13"),
+    (13, "jC10 -jC14 C13 jC10 -jC14 -C13 -jC10 jC14 C13 -jC10 jC14 -C13"),
+    (14, "jC13 jC14 C10 jC13 jC14 -C10 -jC13 -jC14 C10 -jC13 -jC14 -C10"),
+    (15, "jC13 -jC14 C10 jC13 -jC14 -C10 -jC13 jC14 C10 -jC13 jC14 -C10"),
     (16, "C0 C6 C12 C0 C6 -C12 -C0 -C6 C12 -C0 -C6 -C12"),
     (23, "jC6 -jC12 C0 jC6 -jC12 -C0 -jC6 jC12 C0 -jC6 jC12 -C0"),
     (24, "C4 C8 C15 C4 C8 -C15 -C4 -C8 C15 -C4 -C8 -C15"),
@@ -133,15 +113,9 @@ fn allocations_differ() {
 fn annex_a() {
     let mut rows = Vec::new();
     for cell in 0..128 {
-        let row: Vec<Complex> = (0..16)
-            .map(|chip| scrambling_chip(cell, chip).unwrap())
-            .collect();
+        let row: Vec<Complex> = (0..16).map(|chip| scrambling_chip(cell, chip).unwrap()).collect();
         for (chip, element) in row.iter().enumerate() {
-            let (size, other) = if chip % 2 == 0 {
-                (element.im, element.re)
-            } else {
-                (element.re, element.im)
-            };
+            let (size, other) = if chip % 2 == 0 { (element.im, element.re) } else { (element.re, element.im) };
             assert_eq!((size.abs(), other), (1, 0));
         }
         assert!(!rows.contains(&row));
@@ -156,9 +130,7 @@ fn levels_are_orthogonal() {
         for k1 in 0..q {
             assert_eq!(element(q, 0, k1), Ok(1));
             for k2 in 0..q {
-                let sum: i32 = (0..q)
-                    .map(|chip| element(q, k1, chip).unwrap() * element(q, k2, chip).unwrap())
-                    .sum();
+                let sum: i32 = (0..q).map(|chip| element(q, k1, chip).unwrap() * element(q, k2, chip).unwrap()).sum();
                 assert_eq!(sum, if k1 == k2 { q as i32 } else { 0 });
             }
         }
@@ -174,11 +146,7 @@ fn related_codes_are_those_not_orthogonal() {
         for k1 in 0..q1 {
             for q2 in factors {
                 for k2 in 0..q2 {
-                    let (short, long) = if q1 < q2 {
-                        ((q1, k1), (q2, k2))
-                    } else {
-                        ((q2, k2), (q1, k1))
-                    };
+                    let (short, long) = if q1 < q2 { ((q1, k1), (q2, k2)) } else { ((q2, k2), (q1, k1)) };
                     let orthogonal = (0..long.0 / short.0).all(|place| {
                         let sum: i32 = (0..short.0)
                             .map(|chip| {
@@ -230,11 +198,7 @@ fn primary_code_by_annex_b() {
         let delayed = |k: usize| if k < delay { 0 } else { b[k - delay] };
         let sum: Vec<i32> = (0..256).map(|k| a[k] + weight * delayed(k)).collect();
         let difference: Vec<i32> = (0..256).map(|k| a[k] - weight * delayed(k)).collect();
-        b = if n == 4 || n == 6 {
-            sum.clone()
-        } else {
-            difference
-        };
+        b = if n == 4 || n == 6 { sum.clone() } else { difference };
         a = sum;
     }
     for (chip, &x) in a.iter().enumerate() {

@@ -1,0 +1,15 @@
+#!/bin/sh
+# The libraries as hosts use them: builds them into lib/, then runs the tests of host/, which hold every export to an independent implementation, and
+# compile and run C programs by the headers under include/.
+set -eu
+cd "$(dirname "$0")/.."
+for tool in cargo cc; do
+    command -v $tool >/dev/null || {
+        echo "host: $tool is not on the path: the tests of the libraries need cargo (Rust 1.85 or newer) and a C compiler" >&2
+        exit 1
+    }
+done
+make --no-print-directory libraries
+began=$(date +%s)
+(cd host && cargo test --quiet --tests && cargo test --quiet --doc)
+echo "host: the libraries agree with the independent implementation, and with their headers; $(($(date +%s) - began)) s"
