@@ -77,14 +77,19 @@ fn run_list<B: Runs + Clone + PartialEq>(fresh: B, random: &mut Random, coverage
     None
 }
 
+/// A failing list in short.
+fn report<B: Runs + Clone + PartialEq>(fresh: &B, named: &str, list: &[Call]) -> String {
+    let (short, fault) = shrink(list, |calls| fault(fresh.clone(), calls));
+    let lengths = format!("failed at its call {}, shrunk to {}", list.len(), short.len());
+    format!("{named} {lengths}:\n{}", readable(&short, &fault))
+}
+
 /// Runs lists, or gives the report of the first one that fails.
 fn run_lists<B: Runs + Clone + PartialEq>(fresh: &B, seed: u64, lists: Range<usize>) -> Result<Coverage, String> {
     let mut coverage = Coverage::default();
     for n in lists {
         if let Some(list) = run_list(fresh.clone(), &mut Random::of(seed, n), &mut coverage) {
-            let (short, fault) = shrink(&list, |calls| fault(fresh.clone(), calls));
-            let lengths = format!("failed at its call {}, shrunk to {}", list.len(), short.len());
-            return Err(format!("list {n} of TDD_SEED={seed} {lengths}:\n{}", readable(&short, &fault)));
+            return Err(report(fresh, &format!("list {n} of TDD_SEED={seed}"), &list));
         }
     }
     Ok(coverage)
@@ -104,6 +109,23 @@ fn random_lists_on_raw_exports() {
     let coverage = run_lists(&ffi::tdd_bench_fresh(), seed, RAW_LISTS).unwrap_or_else(|report| panic!("{report}"));
     println!("{coverage}");
     coverage.check_refusals(1);
+}
+
+/// The burst of every cell in every case, frame and half: random lists come upon most of them only.
+#[test]
+fn every_sync_burst() {
+    let seed = printed_seed("every_sync_burst");
+    for cell in 0..128 {
+        let mut random = Random::of(seed, cell);
+        for (case, frame, half) in [(1, 1, 0), (1, 2, 0), (2, 1, 0), (2, 1, 1), (2, 2, 0), (2, 2, 1)] {
+            let [gp, gs] = [(); 2].map(|()| random.within(1, 4095) as u32);
+            let set = [Call::SetCell { cell: cell as u32, kind: 1 }, Call::SetSync { case, frame, half, gp, gs }];
+            let list = [&set[..], &last_calls()].concat();
+            if fault(Bench::fresh(), &list).is_some() {
+                panic!("{}", report(&Bench::fresh(), &format!("list of TDD_SEED={seed}"), &list));
+            }
+        }
+    }
 }
 
 /// The reference, but with every gain that is set, up to the largest, one too high.
