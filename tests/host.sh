@@ -11,5 +11,5 @@ for tool in cargo cc; do
 done
 make --no-print-directory libraries
 began=$(date +%s)
-(cd host && cargo test --quiet --tests && cargo test --quiet --doc)
+(cd host && cargo test --quiet -- --show-output) # with the seeds, and what the random lists came upon
 echo "host: the libraries agree with the independent implementation, and with their headers; $(($(date +%s) - began)) s"
