@@ -2,7 +2,7 @@
  * The lesson lessons/first-slot.txt as a C host: one channel, from bits to chips and back. It prints what the script is
  * answered. From the repository's root:
  *
- *     cc -std=c99 -Iinclude host/c/lesson.c -Llib -ltdd_bench -o lesson && ./lesson
+ *     cc -std=c99 -Iinclude host/c/lesson.c -Llib -ltdd_bench -o target/lesson && target/lesson
  */
 #include <inttypes.h>
 #include <stdio.h>
