@@ -3,7 +3,6 @@ use mathlib.Core.Path.{_≡_, refl, sym, ap, subst, _∙_}
 use mathlib.Core.Logic.{_≢_}
 use mathlib.Core.Bool.{Bool, true, false, _&&_, not, cond}
 use mathlib.Core.List.{List, [], _∷_, _++_}
-use Prim.Native.Nat.{ℕ}
 use lib.Dec.{T, eqb}
 use borrow.Author.Tests.{eq-eqb}
 use mir.Facts.{and-yes}
@@ -61,12 +60,8 @@ passed-early [] qs p = refl
 passed-early (r ∷ rs) qs p = rw (p .0) (passed-early rs qs (p .1))
 
 -- ---- an answer as a C struct holds it: its refusal's number or 0, and a field f, or z where it is refused
-module _ {A B : Type 0} (z : B) (f : A → B) where
-  pub held-given : {a : Answer A} {x : A} → gives x ≡ a → (0 ≡ refusal-of a) × (f x ≡ after a z f)
-  held-given e = (ap refusal-of e, ap (λ b. after b z f) e)
-
-  pub held-refused : {a : Answer A} {n : ℕ} → refused n ≡ a → (n ≡ refusal-of a) × (z ≡ after a z f)
-  held-refused e = (ap refusal-of e, ap (λ b. after b z f) e)
+pub held : {A B : Type 0} (z : B) (f : A → B) {t a : Answer A} → t ≡ a → (refusal-of t ≡ refusal-of a) × (after t z f ≡ after a z f)
+held z f e = (ap refusal-of e, ap (λ b. after b z f) e)
 
 pub refusal-of-outcome : {A : Type 0} (a : Answer A) → refusal-of (outcome a) ≡ refusal-of a
 refusal-of-outcome (refused n) = refl

@@ -1,8 +1,8 @@
 -- What a call told of its answer, as a C struct holds it. Assumes nothing.
-use mathlib.Core.Path.{_≡_, refl, ap, _∙_}
+use mathlib.Core.Path.{_≡_, ap, _∙_}
 use Prim.Native.Nat.{ℕ}
 use Rattle.codes.specs.Refusals.{Answer, refused, gives, outcome, after, refusal-of}
-use Rattle.codes.proofs.Refused.{refusal-of-outcome}
+use Rattle.codes.proofs.Refused.{held, refusal-of-outcome}
 use Rattle.bench.specs.declared.Bench.{Bench}
 use Rattle.bench.specs.BenchCalls.{AnswerAt, refused-at, loads, Draw, counted, left-by, plan-outcome}
 use Rattle.tdd_bench.specs.PlanResults.{place-of, plan-refusal-of}
@@ -18,19 +18,11 @@ pub called : (a : Answer Bench) (b : Bench) {n : ℕ} {t : Answer (Unit {0})} {n
 called a b c e = (c .0 ∙ told-refusal a (e .0), c .1 ∙ e .1)
 
 -- a draw tells its count
-pub drew : (a : Answer Draw) {m : ℕ} → gives m ≡ counted a → (0 ≡ refusal-of a) × (m ≡ after a 0 (λ d. d .count))
-drew (refused n) e = (cc, cc)
-drew (gives d) e = (refl, cc)
-
-pub not-drawn : (a : Answer Draw) {n : ℕ} → refused n ≡ counted a → (n ≡ refusal-of a) × (0 ≡ after a 0 (λ d. d .count))
-not-drawn (refused n) e = (cc, refl)
-not-drawn (gives d) e = (cc, cc)
+pub told-count : (a : Answer Draw) {t : Answer ℕ} → t ≡ counted a → (refusal-of t ≡ refusal-of a) × (after t 0 (λ m. m) ≡ after a 0 (λ d. d .count))
+told-count (refused n) e = held 0 (λ m. m) e
+told-count (gives d) e = held 0 (λ m. m) e
 
 -- load plan tells the place of its refusal
-pub loaded : (a : AnswerAt Bench) → loads tt ≡ plan-outcome a → (0 ≡ plan-refusal-of a) × (0 ≡ place-of a)
-loaded (refused-at n place) e = (cc, cc)
-loaded (loads b) e = (refl, refl)
-
-pub not-loaded : (a : AnswerAt Bench) {n place : ℕ} → refused-at n place ≡ plan-outcome a → (n ≡ plan-refusal-of a) × (place ≡ place-of a)
-not-loaded (refused-at n place) e = (cc, cc)
-not-loaded (loads b) e = (cc, cc)
+pub told-place : (a : AnswerAt Bench) {t : AnswerAt (Unit {0})} → t ≡ plan-outcome a → (plan-refusal-of t ≡ plan-refusal-of a) × (place-of t ≡ place-of a)
+told-place (refused-at n place) e = (ap plan-refusal-of e, ap place-of e)
+told-place (loads b) e = (ap plan-refusal-of e, ap place-of e)

@@ -4,7 +4,7 @@ use denote.Ref.{now}
 use lib.ListN.{length}
 use borrow.Author.Needs.{needs}
 use Rattle.bench.specs.BenchCalls.{draw-call, told-draw}
-use Rattle.tdd_bench.proofs.Results.{drew, not-drawn}
+use Rattle.tdd_bench.proofs.Results.{told-count}
 use Rattle.tdd_bench.proofs.tdd_bench_draw.Statement.{statement}
 use Rattle.tdd_bench.proofs.tdd_bench_draw.Tie as tie
 
@@ -13,7 +13,7 @@ returns c =
     let d = c .before .before .before .before .before .before in
     let s = d .before .before .before .args in
     let e = d .draw .ensures in
-    let t = drew (draw-call (s .bench) (length (now (s .re))) (length (now (s .im)))) (sym (ap told-draw (c .before .answer .given .1)) ∙ e .0) in
+    let t = told-count (draw-call (s .bench) (length (now (s .re))) (length (now (s .im)))) (sym (ap told-draw (c .before .answer .given .1)) ∙ e .0) in
     (t .0, (t .1, e .1))
 
 returns-2 : tie.Need-returns-2
@@ -21,7 +21,7 @@ returns-2 c =
     let d = c .before .before .before .before .before .before in
     let s = d .before .before .before .args in
     let e = d .draw .ensures in
-    let t = not-drawn (draw-call (s .bench) (length (now (s .re))) (length (now (s .im)))) (sym (ap told-draw (c .before .answer2 .given .1)) ∙ e .0) in
+    let t = told-count (draw-call (s .bench) (length (now (s .re))) (length (now (s .im)))) (sym (ap told-draw (c .before .answer2 .given .1)) ∙ e .0) in
     (t .0, (t .1, e .1))
 
 pub tdd-bench-draw-spec : {M : Type 1} → statement M

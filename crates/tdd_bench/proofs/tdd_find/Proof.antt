@@ -5,7 +5,7 @@ use mir.Syntax.{w64}
 use mir.Val.{toZ, ofZ}
 use Prim.Native.Nat.{ℕ}
 use borrow.Author.Needs.{needs}
-use Rattle.codes.proofs.Refused.{held-given, held-refused}
+use Rattle.codes.proofs.Refused.{held}
 use Rattle.sync_analyser.specs.declared.Peak.{Peak}
 use Rattle.sync_analyser.specs.Finding.{told-find}
 use Rattle.tdd_bench.proofs.tdd_find.Statement.{statement}
@@ -17,15 +17,15 @@ returns c =
     let p = sym (ap told-find (c .before .before .answer .given .1)) ∙ e .0 in
     let z = c .before .before .answer .given .0 .0 .size in
     let as-stored : toZ w64 (ofZ w64 z) ≡ z = search needs in
-    let start = held-given {B = ℕ} 0 (λ (x : Peak). x .start) p in
-    (start .0, (start .1, (as-stored ∙ held-given (pos 0) (λ (x : Peak). x .size) p .1, e .1)))
+    let start = held {B = ℕ} 0 (λ (x : Peak). x .start) p in
+    (start .0, (start .1, (as-stored ∙ held (pos 0) (λ (x : Peak). x .size) p .1, e .1)))
 
 returns-2 : tie.Need-returns-2
 returns-2 c =
     let e = c .before .before .before .before .before .find .ensures in
     let p = sym (ap told-find (c .before .answer2 .given .1)) ∙ e .0 in
-    let start = held-refused {B = ℕ} 0 (λ (x : Peak). x .start) p in
-    (start .0, (start .1, (held-refused (pos 0) (λ (x : Peak). x .size) p .1, e .1)))
+    let start = held {B = ℕ} 0 (λ (x : Peak). x .start) p in
+    (start .0, (start .1, (held (pos 0) (λ (x : Peak). x .size) p .1, e .1)))
 
 pub tdd-find-spec : {M : Type 1} → statement M
 tdd-find-spec =

@@ -2,7 +2,7 @@
 use mathlib.Core.Path.{sym, ap, _∙_}
 use Prim.Native.Nat.{ℕ}
 use borrow.Author.Needs.{needs}
-use Rattle.codes.proofs.Refused.{held-given, held-refused}
+use Rattle.codes.proofs.Refused.{held}
 use Rattle.sync_analyser.specs.declared.Candidate.{Candidate}
 use Rattle.sync_analyser.specs.SyncReading.{told-sync}
 use Rattle.tdd_bench.proofs.tdd_read_sync.Statement.{statement}
@@ -11,14 +11,14 @@ use Rattle.tdd_bench.proofs.tdd_read_sync.Tie as tie
 returns : tie.Need-returns
 returns c =
     let p = sym (ap told-sync (c .before .answer .given .1)) ∙ c .before .before .before .read-sync .ensures in
-    let group = held-given {B = ℕ} 0 (λ (x : Candidate). x .group .0) p in
-    (group .0, (group .1, (held-given {B = ℕ} 0 (λ (x : Candidate). x .frame) p .1, held-given {B = ℕ} 0 (λ (x : Candidate). x .half) p .1)))
+    let group = held {B = ℕ} 0 (λ (x : Candidate). x .group .0) p in
+    (group .0, (group .1, (held {B = ℕ} 0 (λ (x : Candidate). x .frame) p .1, held {B = ℕ} 0 (λ (x : Candidate). x .half) p .1)))
 
 returns-2 : tie.Need-returns-2
 returns-2 c =
     let p = sym (ap told-sync (c .before .answer2 .given .1)) ∙ c .before .before .before .read-sync .ensures in
-    let group = held-refused {B = ℕ} 0 (λ (x : Candidate). x .group .0) p in
-    (group .0, (group .1, (held-refused {B = ℕ} 0 (λ (x : Candidate). x .frame) p .1, held-refused {B = ℕ} 0 (λ (x : Candidate). x .half) p .1)))
+    let group = held {B = ℕ} 0 (λ (x : Candidate). x .group .0) p in
+    (group .0, (group .1, (held {B = ℕ} 0 (λ (x : Candidate). x .frame) p .1, held {B = ℕ} 0 (λ (x : Candidate). x .half) p .1)))
 
 pub tdd-read-sync-spec : {M : Type 1} → statement M
 tdd-read-sync-spec = tie.close (tie.spec (λ c κs. search needs) (λ c. search needs) (λ c. search needs) returns returns-2)
