@@ -1,45 +1,110 @@
--- Hardening: the scan over the four scores finds the pair, and the pair's number gives its two bits. Assumes nothing.
-use mathlib.Core.Path.{_≡_, refl, sym, subst}
-use Prim.Native.Nat.{ℕ, _+_, _*_, _/_, _%_, _<_}
+-- Hardening: two comparisons give the bits of the pair with the largest score, the earliest on a tie. Assumes nothing.
+use mathlib.Core.Path.{_≡_, refl, ap}
+use mathlib.Core.Bool.{Bool, true, false, cond}
+use Prim.Native.Nat.{ℕ, zero, suc, _+_, _*_, _/_, _%_, _<_, _≤_}
 use native.Mathlib.Omega.{arith}
-use lib.IntN.{ℤ, negℤ}
+use lib.IntN.{ℤ, pos, negsuc, negℤ, _-ℤ_}
+use lib.Signed.{mag, leZ, ltZ}
+use mir.Syntax.{Width}
+use mir.Val.{SFits}
 use Rattle.complex.specs.declared.Complex.{Complex}
-use Rattle.analyser.specs.declared.largest.Largest.{Largest}
+use Rattle.complex.specs.Arithmetic.{_+j_}
+use Rattle.complex.proofs.Integers.{pos-part, neg-part, negℤ-pos-part, negℤ-neg-part, +ℤ-parts, by-parts}
+use Rattle.complex.proofs.Order.{ltZ-true, ltZ-false, le-leZ, lt-ltZ}
 use Rattle.analyser.specs.Hardening.{pair-score, hard-pair, hard-bit}
-use Rattle.analyser.specs.Held.{or-later, Peaks}
-use Rattle.analyser.proofs.Choosing.{peaks-one, peaks-more, peaks-is}
+use Rattle.analyser.proofs.Choosing.{peaks-is}
 
--- four scores, one after another
-module _ (y : Complex) {v₀ v₁ v₂ v₃ : ℤ} {b₁ b₂ b₃ : Largest} (e₀ : v₀ ≡ y .im) (e₁ : v₁ ≡ y .re) (e₂ : v₂ ≡ negℤ (y .re)) (e₃ : v₃ ≡ negℤ (y .im))
-    (o₁ : b₁ ≡ or-later (record { at = 0; value = v₀ }) (record { at = 1; value = v₁ })) (o₂ : b₂ ≡ or-later b₁ (record { at = 2; value = v₂ }))
-    (o₃ : b₃ ≡ or-later b₂ (record { at = 3; value = v₃ })) where
-  scores : Peaks (pair-score y) 4 b₃
-  unfolding pair-score
-  scores =
-      let s = pair-score y in
-      let p₁ : Peaks s 2 b₁ = subst (Peaks s 2) (sym o₁) (peaks-more s 1 _ (peaks-one s (record { at = 0; value = v₀ }) refl e₀) v₁ e₁) in
-      let p₂ : Peaks s 3 b₂ = subst (Peaks s 3) (sym o₂) (peaks-more s 2 _ p₁ v₂ e₂) in
-      subst (Peaks s 4) (sym o₃) (peaks-more s 3 _ p₂ v₃ e₃)
+-- ---- -1 - y is a number of the width of y
+same-mag : (y : ℤ) → mag (negsuc 0 -ℤ y) ≡ mag y
+same-mag (pos zero) = refl
+same-mag (pos (suc n)) = omega arith
+same-mag (negsuc n) = ap mag (by-parts (negsuc 0 -ℤ negsuc n) (pos n) (omega (arith, +ℤ-parts (negsuc 0) (pos (suc n)))))
 
-  pub pair-is : b₃ .at ≡ hard-pair y
-  unfolding hard-pair
-  pair-is = sym (peaks-is (pair-score y) 4 b₃ scores)
+pub complement-fits : {w : Width} {y : ℤ} → SFits w y → SFits w (negsuc 0 -ℤ y)
+complement-fits {w} {y} f = record { sfits = rw (same-mag y) (f .sfits) }
 
-  below : hard-pair y < 4
-  below = omega (arith, scores .below, pair-is)
+-- ---- the pair
+below-4 : (P : ℕ → Type 0) → P 0 → P 1 → P 2 → P 3 → (k : ℕ) → k < 4 → P k
+below-4 P a b c d zero l = a
+below-4 P a b c d (suc zero) l = b
+below-4 P a b c d (suc (suc zero)) l = c
+below-4 P a b c d (suc (suc (suc zero))) l = d
+below-4 P a b c d (suc (suc (suc (suc k)))) l = absurd (omega arith)
 
-pair-below : (y : Complex) → hard-pair y < 4
-pair-below y = below y refl refl refl refl refl refl refl
+module _ (x y : ℤ) where
+  score : ℕ → ℤ
+  score = pair-score (x +j y)
+
+  -- pair m wins over pair k
+  abbrev Wins : ℕ → ℕ → Type 0
+  Wins m k = (leZ (score k) (score m) ≡ true) × (k < m → ltZ (score k) (score m) ≡ true)
+
+  earlier : (m k : ℕ) → pos-part (score k) + neg-part (score m) < pos-part (score m) + neg-part (score k) → Wins m k
+  earlier m k h = (le-leZ (score k) (score m) (omega arith), λ l. lt-ltZ (score k) (score m) h)
+
+  later : (m k : ℕ) → m ≤ k → pos-part (score k) + neg-part (score m) ≤ pos-part (score m) + neg-part (score k) → Wins m k
+  later m k g h = (le-leZ (score k) (score m) h, λ l. absurd (omega arith))
+
+  wins : (m : ℕ) → m < 4 → Wins m 0 → Wins m 1 → Wins m 2 → Wins m 3 → hard-pair (x +j y) ≡ m
+  unfolding hard-pair score
+  wins m h a b c d =
+      let all = below-4 (Wins m) a b c d in
+      peaks-is score 4 (record { at = m; value = score m })
+      (record { below = h; own = refl; largest = λ k l. all k l .0; earliest = λ k l. let g : k < 4 = omega arith in all k g .1 l })
+
+  -- the parts of the numbers that are compared
+  abbrev Parts : Type 0
+  Parts =
+      (pos-part (negℤ x) ≡ neg-part x) × (neg-part (negℤ x) ≡ pos-part x) × (pos-part (negℤ y) ≡ neg-part y) × (neg-part (negℤ y) ≡ pos-part y)
+      × (pos-part (negsuc 0 -ℤ y) + (1 + pos-part y) ≡ neg-part y + neg-part (negsuc 0 -ℤ y))
+
+  parts : Parts
+  parts = (
+    negℤ-pos-part x,
+    negℤ-neg-part x,
+    negℤ-pos-part y,
+    negℤ-neg-part y,
+    omega (arith, +ℤ-parts (negsuc 0) (negℤ y), negℤ-pos-part y, negℤ-neg-part y),
+  )
+
+  -- by whether x + y is at least 0, and whether x is above y
+  pair-is : (s t : Bool) → ltZ (negsuc 0 -ℤ y) x ≡ s → ltZ y x ≡ t → hard-pair (x +j y) ≡ 2 * cond s 0 1 + cond t 1 0
+  unfolding score pair-score
+  pair-is true true e f =
+      let h = ltZ-true (negsuc 0 -ℤ y) x e in
+      let g = ltZ-true y x f in
+      wins 1 (omega arith) (earlier 1 0 (omega (arith, parts))) (later 1 1 (omega arith) (omega arith)) (later 1 2 (omega arith) (omega (arith, parts))) (later 1 3 (omega arith) (omega (arith, parts)))
+  pair-is true false e f =
+      let h = ltZ-true (negsuc 0 -ℤ y) x e in
+      let g = ltZ-false y x f in
+      wins 0 (omega arith) (later 0 0 (omega arith) (omega arith)) (later 0 1 (omega arith) (omega (arith, parts))) (later 0 2 (omega arith) (omega (arith, parts))) (later 0 3 (omega arith) (omega (arith, parts)))
+  pair-is false true e f =
+      let h = ltZ-false (negsuc 0 -ℤ y) x e in
+      let g = ltZ-true y x f in
+      wins 3 (omega arith) (earlier 3 0 (omega (arith, parts))) (earlier 3 1 (omega (arith, parts))) (earlier 3 2 (omega (arith, parts))) (later 3 3 (omega arith) (omega arith))
+  pair-is false false e f =
+      let h = ltZ-false (negsuc 0 -ℤ y) x e in
+      let g = ltZ-false y x f in
+      wins 2 (omega arith) (earlier 2 0 (omega (arith, parts))) (earlier 2 1 (omega (arith, parts))) (later 2 2 (omega arith) (omega arith)) (later 2 3 (omega arith) (omega (arith, parts)))
+
+  at-most-1 : (t : Bool) → cond t 1 0 ≤ 1
+  at-most-1 true = omega arith
+  at-most-1 false = omega arith
+
+  pub first-is : (s : Bool) → ltZ (negsuc 0 -ℤ y) x ≡ s → cond s 0 1 ≡ hard-pair (x +j y) / 2
+  first-is s e = omega (arith, pair-is s (ltZ y x) e refl, at-most-1 (ltZ y x))
+
+  pub second-is : (t : Bool) → ltZ y x ≡ t → cond t 1 0 ≡ hard-pair (x +j y) % 2
+  second-is t e = omega (arith, pair-is (ltZ (negsuc 0 -ℤ y) x) t refl e, at-most-1 t)
 
 -- the two bits of reading n
 module _ (y : ℕ → Complex) (n : ℕ) where
-  pub first-bit : hard-pair (y n) / 2 % 2 ≡ hard-bit y (2 * n)
+  pub first-bit : hard-pair (y n) / 2 ≡ hard-bit y (2 * n)
   unfolding hard-bit
   first-bit =
       let e : 2 * n % 2 ≡ 0 = omega arith in
       let d : 2 * n / 2 ≡ n = omega arith in
-      let h : hard-pair (y n) / 2 % 2 ≡ hard-pair (y n) / 2 = omega (arith, pair-below (y n)) in
-      rw (e, d) h
+      rw (e, d)
 
   pub second-bit : hard-pair (y n) % 2 ≡ hard-bit y (2 * n + 1)
   unfolding hard-bit

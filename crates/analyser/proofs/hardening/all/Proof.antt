@@ -4,6 +4,7 @@ use mathlib.Core.List.{List}
 use Prim.Native.Nat.{ℕ, _+_, _*_, _/_, _%_, _≤_, _-_}
 use native.Mathlib.Omega.{arith}
 use lib.ListN.{length, set, length-set}
+use Rattle.complex.specs.declared.Complex.{Complex}
 use Rattle.complex.specs.Buffers.{listed, value, written}
 use Rattle.complex.proofs.Lists.{one-more-written}
 use Rattle.analyser.specs.Hardening.{hard-bit, hard-pair}
@@ -24,11 +25,8 @@ loop-holds c = (omega arith, refl, refl)
 value-at-requires : tie.Need-value-at-requires Inv-loop μ-loop
 value-at-requires c κs = omega arith
 
-pair-requires : tie.Need-pair-requires Inv-loop μ-loop
-pair-requires c κs = tt
-
-cast-bits : tie.Need-cast-bits Inv-loop μ-loop
-cast-bits c = omega arith
+first-bit-requires : tie.Need-first-bit-requires Inv-loop μ-loop
+first-bit-requires c κs = tt
 
 mul-bits : tie.Need-mul-bits Inv-loop μ-loop
 mul-bits c = omega arith
@@ -36,8 +34,8 @@ mul-bits c = omega arith
 slice-write-bits : tie.Need-slice-write-bits Inv-loop μ-loop
 slice-write-bits c = omega arith
 
-cast-bits-2 : tie.Need-cast-bits-2 Inv-loop μ-loop
-cast-bits-2 c = omega arith
+second-bit-requires : tie.Need-second-bit-requires Inv-loop μ-loop
+second-bit-requires c κs = tt
 
 mul-bits-2 : tie.Need-mul-bits-2 Inv-loop μ-loop
 mul-bits-2 c = omega arith
@@ -54,19 +52,15 @@ add-n c = omega arith
 loop-less : tie.Need-loop-less Inv-loop μ-loop
 loop-less c = omega arith
 
--- the pair of the reading
-pair-is : (c : tie.After-pair Inv-loop μ-loop) → let s = c .before .before .before .before .before .args in
-    c .pair .result ≡ hard-pair (value (s .re .now) (s .im .now) (c .before .before .before .loop .n))
-pair-is c = c .pair .ensures ∙ ap hard-pair (c .before .value-at .ensures)
-
 loop-again : tie.Need-loop-again Inv-loop μ-loop
 loop-again c =
-    let l = c .before .before .before .loop in
-    let s = c .before .before .before .before .before .args in
+    let v = c .before .before in
+    let l = v .before .before .loop in
+    let s = v .before .before .before .before .args in
     let y = value (s .re .now) (s .im .now) in
     let d = s .bits .now in
-    let first : c .pair .result / 2 % 2 ≡ hard-bit y (2 * l .n) = ap (λ (m : ℕ). m / 2 % 2) (pair-is c) ∙ first-bit y (l .n) in
-    let second : c .pair .result % 2 ≡ hard-bit y (2 * l .n + 1) = ap (λ (m : ℕ). m % 2) (pair-is c) ∙ second-bit y (l .n) in
+    let first : c .before .first-bit .result ≡ hard-bit y (2 * l .n) = c .before .first-bit .ensures ∙ ap (λ (z : Complex). hard-pair z / 2) (v .value-at .ensures) ∙ first-bit y (l .n) in
+    let second : c .second-bit .result ≡ hard-bit y (2 * l .n + 1) = c .second-bit .ensures ∙ ap (λ (z : Complex). hard-pair z % 2) (v .value-at .ensures) ∙ second-bit y (l .n) in
     let e : 2 * l .n + 1 + 1 ≡ 2 * (l .n + 1) = omega arith in (
       omega arith,
       simp length-set (l .inv .1),
@@ -92,11 +86,10 @@ all-spec =
     μ-loop
     loop-holds
     value-at-requires
-    pair-requires
-    cast-bits
+    first-bit-requires
     mul-bits
     slice-write-bits
-    cast-bits-2
+    second-bit-requires
     mul-bits-2
     add-bits
     slice-write-bits-2
