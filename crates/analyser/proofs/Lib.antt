@@ -4,3 +4,4 @@ pub mod Smallest
 pub mod Choosing
 pub mod Readings
 pub mod Pairs
+pub mod Lanes

@@ -1,13 +1,16 @@
 -- How the code computes what the other files define. Nothing here is document 01's: the contracts of the public calls do not name it.
 use mathlib.Core.Path.{_≡_}
-use lib.IntN.{ℤ}
-use Prim.Native.Nat.{ℕ, _+_, _%_, _<_}
-use mathlib.Core.Bool.{true, cond}
+use lib.IntN.{ℤ, pos, negsuc, negℤ, _*ℤ_}
+use Prim.Native.Nat.{ℕ, _+_, _*_, _/_, _%_, _<_}
+use mathlib.Core.Bool.{Bool, true, cond}
+use mathlib.Core.List.{List}
+use lib.Dec.{eqb, ltb}
+use lib.ListN.{getD}
 use lib.Signed.{leZ, ltZ}
 use Rattle.complex.specs.declared.Complex.{Complex}
-use Rattle.complex.specs.Arithmetic.{real, _⊗_, conj, Σ<}
+use Rattle.complex.specs.Arithmetic.{real, _⊕_, _⊗_, conj, j^, Σ<}
 use Rattle.codes.specs.Tree.{element}
-use Rattle.codes.specs.Scrambling.{scrambling}
+use Rattle.codes.specs.Scrambling.{v, scrambling}
 use Rattle.analyser.specs.declared.largest.Largest.{Largest}
 
 -- what a chip is multiplied by, 16 chips apart the same: chip q has weight q mod 16
@@ -18,6 +21,40 @@ weight p Q k i = conj (scrambling p (i + 1)) ⊗ real (element Q k (i % Q))
 unfoldable pub weighed : (ℕ → Complex) → (ℕ → Complex) → ℕ → ℕ → Complex
 weighed chip w from q = Σ< q (λ i. chip (from + i) ⊗ w ((from + i) % 16))
 
+-- ---- Q 16
+-- -s where the conjugate of j^(i+1) is -j or -1, s where it is j or 1
+unfoldable pub turned : ℤ → ℕ → ℤ
+turned s i = cond (ltb (i % 4) 2) (negℤ s) s
+
+-- the sign of the weight at place i: the weight is this sign, times j where i is even
+unfoldable pub place-sign : ℕ → ℕ → ℕ → ℤ
+place-sign p k i = turned (v p (i + 1) *ℤ element 16 k i) i
+
+-- 1 or -1
+unfoldable pub is-sign : ℤ → Bool
+is-sign (pos n) = eqb n 1
+is-sign (negsuc n) = eqb n 0
+
+pub record Signs (l : List ℤ) : Type 0 where
+  pub at : (i : ℕ) → i < 16 → is-sign (getD l i (pos 0)) ≡ true
+
+abbrev pub entry : List ℤ → ℕ → ℤ
+entry l i = getD l i (pos 0)
+
+-- the sum of four of the sixteen chips from `from` on, four places apart, each with its sign
+unfoldable pub lane : (ℕ → ℤ) → (ℕ → Complex) → ℕ → ℕ → Complex
+lane s chip from l =
+    real (s l) ⊗ chip (from + l) ⊕ real (s (l + 4)) ⊗ chip (from + (l + 4)) ⊕ real (s (l + 8)) ⊗ chip (from + (l + 8)) ⊕ real (s (l + 12)) ⊗ chip (from + (l + 12))
+
+-- the four lanes of each sixteen chips, one after another
+abbrev pub lanes-of : (ℕ → ℤ) → (ℕ → Complex) → ℕ → Complex
+lanes-of s chip c = lane s chip (16 * (c / 4)) (c % 4)
+
+-- reading m of its four lanes: those of the even places are multiplied by j
+unfoldable pub joined : (ℕ → Complex) → ℕ → Complex
+joined y m = y (4 * m + 1) ⊕ y (4 * m + 3) ⊕ j^ 1 ⊗ (y (4 * m) ⊕ y (4 * m + 2))
+
+-- ----
 -- the larger of two values, the earlier one where they are equal
 abbrev pub or-later : Largest → Largest → Largest
 or-later b c = cond (ltZ (b .value) (c .value)) c b

@@ -12,6 +12,7 @@ pub mod components;
 mod hardening;
 pub mod largest;
 mod reading;
+mod sixteen;
 pub mod wide;
 
 pub enum ReadAnswer {

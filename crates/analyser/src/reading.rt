@@ -10,6 +10,7 @@ ghost use Rattle.codes.specs.Tree.{is-spreading-factor};
 ghost use Rattle.analyser.specs.Reading.{no-field, read-refusals, reading as reading-of};
 ghost use Rattle.analyser.specs.Held.{weighed, weight as weight-of};
 use crate::components;
+use crate::sixteen;
 use codes::CellParameter;
 use codes::scrambling;
 use codes::tree;
@@ -116,8 +117,8 @@ fn reading(
     sum
 }
 
-// Every reading, to the answer buffers: the weights repeat every sixteen chips, so they are made once.
-pub fn all(
+// Every reading of any code, to the answer buffers: the weights repeat every sixteen chips, so they are made once.
+fn by_products(
     cell: CellParameter,
     q: u32,
     k: u32,
@@ -141,5 +142,27 @@ pub fn all(
         let b = y.im;
         outre[n] = a;
         outim[n] = b;
+    }
+}
+
+// Every reading, to the answer buffers.
+pub fn all(
+    cell: CellParameter,
+    q: u32,
+    k: u32,
+    re: &[i32],
+    im: &[i32],
+    outre: &mut [i32],
+    outim: &mut [i32],
+)
+    requires { ⌜ (cell .0 < 128) × (is-spreading-factor q ≡ true) × (k < q) × (length (now re) ≡ length (now im)) × (length (now re) ≤ 1104) × (length (now re) / q ≤ length (now outre)) × (length (now re) / q ≤ length (now outim)) ⌝ }
+    requires { ⌜ Bound 100000 (now re) × Bound 100000 (now im) ⌝ }
+    ensures real { λ r. ⌜ now (outre .exit) ≡ written (listed (length (now (re .entry)) / q) (λ n. reading-of (cell .0) q k (value (now (re .entry)) (now (im .entry))) n .re)) (now (outre .entry)) ⌝ }
+    ensures imaginary { λ r. ⌜ now (outim .exit) ≡ written (listed (length (now (re .entry)) / q) (λ n. reading-of (cell .0) q k (value (now (re .entry)) (now (im .entry))) n .im)) (now (outim .entry)) ⌝ }
+{
+    if q == 16 {
+        sixteen::all(cell, k, re, im, outre, outim);
+    } else {
+        by_products(cell, q, k, re, im, outre, outim);
     }
 }

@@ -24,7 +24,7 @@ fn no_row(p: u32) -> u32
 }
 
 // Row p of Annex A.
-fn annex_row(p: u32) -> u32
+pub fn annex_row(p: u32) -> u32
     ensures { λ r. ⌜ r ≡ packed (row p) ⌝ }
 {
     match p {

@@ -4,7 +4,7 @@ use mathlib.Core.Bool.{_||_, not}
 use mathlib.Core.List.{List}
 use Prim.Native.Nat.{_/_, _%_}
 use borrow.Author.Needs.{needs}
-use borrow.Author.Tests.{eqb-true, ltb-false, not-false}
+use borrow.Author.Tests.{eqb-true, leb-false, ltb-false, not-false}
 use lib.Dec.{eqb, ltb}
 use lib.IntN.{ℤ}
 use lib.ListN.{length}
@@ -47,13 +47,16 @@ all-requires c κs =
     let d = c .before .before in
     let s = d .before .before .args in
     let n = length (s .re .now) in
-    let p = tests d .1 in
+    let t = tests d in
+    let p = t .1 in
     let f = p .1 .1 in
     let field = neither (eqb n 0 || ltb longest-field n) (not (eqb (n % 16) 0)) (f .1 .0) .0 in
     let inside = neither (outside (s .re .now)) (outside (s .im .now)) (f .1 .1 .0) in
     let room = neither (ltb (length (s .outre .now)) (n / s .q)) (ltb (length (s .outim .now)) (n / s .q)) (f .1 .1 .1 .0) in (
       (
+        leb-false 128 (s .cell .0) (t .0),
         not-false (is-spreading-factor (s .q)) (p .0),
+        leb-false (s .q) (s .k) (p .1 .0),
         eqb-true n (length (s .im .now)) (not-false (eqb n (length (s .im .now))) (f .0)),
         ltb-false longest-field n (neither (eqb n 0) (ltb longest-field n) field .1),
         ltb-false (length (s .outre .now)) (n / s .q) (room .0),

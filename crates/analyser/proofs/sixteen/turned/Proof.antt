@@ -1,0 +1,30 @@
+-- `turned` meets its contract. Assumes nothing.
+use mathlib.Core.Path.{_≡_}
+use Prim.Native.Nat.{_%_}
+use borrow.Author.Tests.{lt-ltb, le-ltb}
+use lib.IntN.{negℤ}
+use mir.Syntax.{w32}
+use mir.Val.{SFits}
+use mir.Facts.{toZ-ofZ}
+use Rattle.complex.proofs.Machine.{neg-asks, neg-gives}
+use Rattle.complex.proofs.Sizes.{fits-within, within-neg}
+use Rattle.analyser.specs.Held.{turned}
+use Rattle.analyser.proofs.sixteen.turned.Statement.{statement}
+use Rattle.analyser.proofs.sixteen.turned.Tie as tie
+
+negative : (c : tie.Start) → SFits w32 (negℤ (c .args .s))
+negative c = fits-within (within-neg (c .pre)) tt
+
+sub-result : tie.Need-sub-result
+sub-result c = neg-asks (c .before .fits .s) (negative (c .before))
+
+returns : tie.Need-returns
+unfolding turned
+returns c = rw (lt-ltb (c .before .args .i % 4) 2 (c .if1 .taken)) (neg-gives (c .before .fits .s) (negative (c .before)))
+
+returns-2 : tie.Need-returns-2
+unfolding turned
+returns-2 c = rw (le-ltb (c .before .args .i % 4) 2 (c .if1 .left)) (toZ-ofZ (c .before .fits .s))
+
+pub turned-spec : {M : Type 1} → statement M
+turned-spec = tie.close (tie.spec sub-result returns returns-2)
