@@ -42,7 +42,7 @@ sign-*ℤ : (x y : ℤ) → is-sign x ≡ true → is-sign y ≡ true → is-sig
 unfolding is-sign
 sign-*ℤ x y e f = of-sign (λ (t : ℤ). is-sign (t *ℤ y) ≡ true) (of-sign (λ (t : ℤ). is-sign (pos 1 *ℤ t) ≡ true) refl refl y f) (of-sign (λ (t : ℤ). is-sign (negsuc 0 *ℤ t) ≡ true) refl refl y f) x e
 
-sign-negℤ : (x : ℤ) → is-sign x ≡ true → is-sign (negℤ x) ≡ true
+pub sign-negℤ : (x : ℤ) → is-sign x ≡ true → is-sign (negℤ x) ≡ true
 unfolding is-sign
 sign-negℤ = of-sign (λ (t : ℤ). is-sign (negℤ t) ≡ true) refl refl
 
@@ -111,10 +111,10 @@ module _ (x e : ℤ) where
   fourth = by-components (real-part x (pos 0) e) (imaginary-part x (pos 0) e ∙ zero-*ℤ e)
 
 -- the sign at place i, times j where i is even
-abbrev placed : ℕ → Complex → Complex
+abbrev pub placed : ℕ → Complex → Complex
 placed i x = cond (eqb (i % 2) 0) (j^ 1 ⊗ x) x
 
-weight-is : (p k i : ℕ) → i < 16 → weight p 16 k i ≡ placed i (real (place-sign p k i))
+pub weight-is : (p k i : ℕ) → i < 16 → weight p 16 k i ≡ placed i (real (place-sign p k i))
 unfolding weight place-sign turned scrambling
 weight-is p k i h = by (i % 4) refl (omega arith)
   where

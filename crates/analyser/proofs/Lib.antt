@@ -5,3 +5,4 @@ pub mod Choosing
 pub mod Readings
 pub mod Pairs
 pub mod Lanes
+pub mod Turns

@@ -9,6 +9,7 @@ use lib.ListN.{getD}
 use lib.Signed.{leZ, ltZ}
 use Rattle.complex.specs.declared.Complex.{Complex}
 use Rattle.complex.specs.Arithmetic.{real, _⊕_, _⊗_, conj, j^, Σ<}
+use Rattle.complex.specs.Buffers.{value}
 use Rattle.codes.specs.Tree.{element}
 use Rattle.codes.specs.Scrambling.{v, scrambling}
 use Rattle.analyser.specs.declared.largest.Largest.{Largest}
@@ -53,6 +54,15 @@ lanes-of s chip c = lane s chip (16 * (c / 4)) (c % 4)
 -- reading m of its four lanes: those of the even places are multiplied by j
 unfoldable pub joined : (ℕ → Complex) → ℕ → Complex
 joined y m = y (4 * m + 1) ⊕ y (4 * m + 3) ⊕ j^ 1 ⊗ (y (4 * m) ⊕ y (4 * m + 2))
+
+-- ---- Q 1
+-- one component is 0, the other 1 or -1
+pub data Turn (w : Complex) : Type 0 where
+  imaginary : w .re ≡ pos 0 → is-sign (w .im) ≡ true → Turn w
+  whole : w .im ≡ pos 0 → is-sign (w .re) ≡ true → Turn w
+
+pub record Turns (re im : List ℤ) : Type 0 where
+  pub at : (i : ℕ) → i < 16 → Turn (value re im i)
 
 -- ----
 -- the larger of two values, the earlier one where they are equal

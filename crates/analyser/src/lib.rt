@@ -11,6 +11,7 @@ use codes::CellParameter;
 pub mod components;
 mod hardening;
 pub mod largest;
+mod one;
 mod reading;
 mod sixteen;
 pub mod wide;

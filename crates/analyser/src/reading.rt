@@ -1,7 +1,7 @@
 // Readings of a code from a field.
 ghost use mathlib.Core.Path.{_≡_};
 ghost use mathlib.Core.Bool.{true};
-ghost use Prim.Native.Nat.{_+_, _/_, _<_, _≤_};
+ghost use Prim.Native.Nat.{_+_, _/_, _%_, _<_, _≤_};
 ghost use lib.ListN.{length};
 ghost use Rattle.complex.specs.Fits.{Bound};
 ghost use Rattle.complex.specs.Buffers.{listed, value, written};
@@ -10,6 +10,7 @@ ghost use Rattle.codes.specs.Tree.{is-spreading-factor};
 ghost use Rattle.analyser.specs.Reading.{no-field, read-refusals, reading as reading-of};
 ghost use Rattle.analyser.specs.Held.{weighed, weight as weight-of};
 use crate::components;
+use crate::one;
 use crate::sixteen;
 use codes::CellParameter;
 use codes::scrambling;
@@ -77,7 +78,7 @@ pub struct CodeWeights {
     pub im: [i32; 16],
 }
 
-fn weights(cell: CellParameter, q: u32, k: u32) -> CodeWeights
+pub fn weights(cell: CellParameter, q: u32, k: u32) -> CodeWeights
     requires { ⌜ 0 < q ⌝ }
     ensures { λ r. ⌜ (r .re ≡ listed 16 (λ i. weight-of (cell .0) q k i .re)) × (r .im ≡ listed 16 (λ i. weight-of (cell .0) q k i .im)) ⌝ }
 {
@@ -155,14 +156,14 @@ pub fn all(
     outre: &mut [i32],
     outim: &mut [i32],
 )
-    requires { ⌜ (cell .0 < 128) × (is-spreading-factor q ≡ true) × (k < q) × (length (now re) ≡ length (now im)) × (length (now re) ≤ 1104) × (length (now re) / q ≤ length (now outre)) × (length (now re) / q ≤ length (now outim)) ⌝ }
+    requires { ⌜ (cell .0 < 128) × (is-spreading-factor q ≡ true) × (k < q) × (length (now re) ≡ length (now im)) × (length (now re) ≤ 1104) × (length (now re) % 16 ≡ 0) × (length (now re) / q ≤ length (now outre)) × (length (now re) / q ≤ length (now outim)) ⌝ }
     requires { ⌜ Bound 100000 (now re) × Bound 100000 (now im) ⌝ }
     ensures real { λ r. ⌜ now (outre .exit) ≡ written (listed (length (now (re .entry)) / q) (λ n. reading-of (cell .0) q k (value (now (re .entry)) (now (im .entry))) n .re)) (now (outre .entry)) ⌝ }
     ensures imaginary { λ r. ⌜ now (outim .exit) ≡ written (listed (length (now (re .entry)) / q) (λ n. reading-of (cell .0) q k (value (now (re .entry)) (now (im .entry))) n .im)) (now (outim .entry)) ⌝ }
 {
-    if q == 16 {
-        sixteen::all(cell, k, re, im, outre, outim);
-    } else {
-        by_products(cell, q, k, re, im, outre, outim);
+    match q {
+        1 => one::all(cell, k, re, im, outre, outim),
+        16 => sixteen::all(cell, k, re, im, outre, outim),
+        _ => by_products(cell, q, k, re, im, outre, outim),
     }
 }

@@ -50,7 +50,8 @@ all-requires c κs =
     let t = tests d in
     let p = t .1 in
     let f = p .1 .1 in
-    let field = neither (eqb n 0 || ltb longest-field n) (not (eqb (n % 16) 0)) (f .1 .0) .0 in
+    let whole = neither (eqb n 0 || ltb longest-field n) (not (eqb (n % 16) 0)) (f .1 .0) in
+    let field = whole .0 in
     let inside = neither (outside (s .re .now)) (outside (s .im .now)) (f .1 .1 .0) in
     let room = neither (ltb (length (s .outre .now)) (n / s .q)) (ltb (length (s .outim .now)) (n / s .q)) (f .1 .1 .1 .0) in (
       (
@@ -59,6 +60,7 @@ all-requires c κs =
         leb-false (s .q) (s .k) (p .1 .0),
         eqb-true n (length (s .im .now)) (not-false (eqb n (length (s .im .now))) (f .0)),
         ltb-false longest-field n (neither (eqb n 0) (ltb longest-field n) field .1),
+        eqb-true (n % 16) 0 (not-false (eqb (n % 16) 0) (whole .1)),
         ltb-false (length (s .outre .now)) (n / s .q) (room .0),
         ltb-false (length (s .outim .now)) (n / s .q) (room .1),
       ),
