@@ -14,9 +14,9 @@ use Rattle.complex.specs.Arithmetic.{_+j_, real, 𝟎, _⊕_, _⊗_, conj, j^, 
 use Rattle.complex.specs.Buffers.{listed, value, written}
 use Rattle.complex.specs.Fits.{Within, Both}
 use Rattle.complex.proofs.Components.{both-⊕, both-sign}
-use Rattle.complex.proofs.Integers.{ring, negℤ-*ℤ, negsuc-zero-*ℤ, pos-one-*ℤ}
+use Rattle.complex.proofs.Integers.{ring, negℤ-*ℤ}
 use Rattle.complex.proofs.Lists.{length-listed, listed-at}
-use Rattle.complex.proofs.Ring.{by-components, sums, ⊗-⊕, ⊗-assoc, ⊗-comm, 𝟎-⊕, real-⊗}
+use Rattle.complex.proofs.Ring.{by-components, sums, ⊗-⊕, ⊗-assoc, ⊗-comm, 𝟎-⊕}
 use Rattle.complex.proofs.Rotations.{rotate-0, rotate-1, rotate-2, rotate-3}
 use Rattle.complex.proofs.Sums.{Σ-cong}
 use Rattle.codes.specs.Range.{each}
@@ -52,12 +52,6 @@ minus-sign = of-sign (λ (t : ℤ). ltZ t (pos 0) ≡ true → t ≡ negsuc 0) (
 
 pub plus-sign : (s : ℤ) → is-sign s ≡ true → ltZ s (pos 0) ≡ false → s ≡ pos 1
 plus-sign = of-sign (λ (t : ℤ). ltZ t (pos 0) ≡ false → t ≡ pos 1) (λ e. refl) (λ e. absurd (subst T e tt))
-
-pub minus-⊗ : (x : Complex) → negℤ (x .re) +j negℤ (x .im) ≡ real (negsuc 0) ⊗ x
-minus-⊗ x = sym (real-⊗ (negsuc 0) x ∙ by-components (negsuc-zero-*ℤ (x .re)) (negsuc-zero-*ℤ (x .im)))
-
-pub plus-⊗ : (x : Complex) → x ≡ real (pos 1) ⊗ x
-plus-⊗ x = sym (real-⊗ (pos 1) x ∙ by-components (pos-one-*ℤ (x .re)) (pos-one-*ℤ (x .im)))
 
 rows-test : T (each 128 (λ p. each 16 (λ i. is-sign (row p at i))))
 unfolding each is-sign _at_

@@ -13,6 +13,7 @@ mod hardening;
 pub mod largest;
 mod one;
 mod reading;
+mod signed;
 mod sixteen;
 pub mod wide;
 

@@ -14,27 +14,9 @@ ghost use Rattle.complex.specs.Fits.{Within, Both, Bound};
 ghost use Rattle.analyser.specs.Held.{is-sign, Turn, Turns};
 ghost use Rattle.analyser.specs.Reading.{reading as reading-of};
 use crate::reading;
+use crate::signed::both_signed;
 use codes::CellParameter;
 use complex::Complex;
-
-// x times a sign.
-fn signed(s: i32, x: i32) -> i32
-    requires { ⌜ (is-sign s ≡ true) × Within 100000 x ⌝ }
-    ensures { λ r. ⌜ r ≡ s *ℤ x ⌝ }
-{
-    if s < 0 { -x } else { x }
-}
-
-// The components, each with its sign.
-fn both_signed(s: i32, t: i32, y: Complex) -> Complex
-    requires { ⌜ (is-sign s ≡ true) × (is-sign t ≡ true) × Both 100000 y ⌝ }
-    ensures { λ r. ⌜ r ≡ (s *ℤ y .re) +j (t *ℤ y .im) ⌝ }
-{
-    Complex {
-        re: signed(s, y.re),
-        im: signed(t, y.im),
-    }
-}
 
 // The components change places where the weight's real part is 0.
 fn arranged(x: Complex, w: Complex) -> Complex

@@ -14,6 +14,7 @@ ghost use Rattle.codes.specs.Held.{sign-bit};
 ghost use Rattle.codes.specs.Tree.{element};
 ghost use Rattle.analyser.specs.Held.{entry, is-sign, joined as joined-of, lane as lane-of, lanes-of, place-sign, Signs, turned as turned-of};
 ghost use Rattle.analyser.specs.Reading.{reading as reading-of};
+use crate::signed::both_signed;
 use codes::CellParameter;
 use codes::scrambling;
 use codes::signs::sign_at;
@@ -56,28 +57,14 @@ fn signs(cell: CellParameter, k: u32) -> [i32; 16]
     s
 }
 
-// A chip times a sign.
-fn signed(s: i32, x: Complex) -> Complex
-    requires { ⌜ (is-sign s ≡ true) × Both 100000 x ⌝ }
-    ensures { λ r. ⌜ r ≡ real s ⊗ x ⌝ }
-{
-    if s < 0 {
-        Complex {
-            re: -x.re,
-            im: -x.im,
-        }
-    } else {
-        x
-    }
-}
-
 // The chip at place i of sixteen, with its sign.
 fn signed_at(s: &[i32; 16], re: &[i32], im: &[i32], at: usize, i: usize) -> Complex
     requires { ⌜ (at + 16 ≤ length (now re)) × (at + 16 ≤ length (now im)) × (i < 16) × Signs (now s) × Bound 100000 (now re) × Bound 100000 (now im) ⌝ }
     ensures is { λ r. ⌜ r ≡ real (entry (now (s .entry)) i) ⊗ value (now (re .entry)) (now (im .entry)) (at + i) ⌝ }
     ensures size { λ r. ⌜ Both 100000 r ⌝ }
 {
-    signed(s[i], complex::value_at(re, im, at + i))
+    let t = s[i];
+    both_signed(t, t, complex::value_at(re, im, at + i))
 }
 
 // The sum of four chips with their signs, four places apart: l, l + 4, l + 8 and l + 12.

@@ -10,8 +10,8 @@ use Rattle.complex.proofs.Integers.{negsuc-zero-*ℤ, pos-one-*ℤ}
 use Rattle.complex.proofs.Machine.{neg-asks, neg-gives}
 use Rattle.complex.proofs.Sizes.{fits-within, within-neg}
 use Rattle.analyser.proofs.Lanes.{minus-sign, plus-sign}
-use Rattle.analyser.proofs.one.signed.Statement.{statement}
-use Rattle.analyser.proofs.one.signed.Tie as tie
+use Rattle.analyser.proofs.signed.signed.Statement.{statement}
+use Rattle.analyser.proofs.signed.signed.Tie as tie
 
 negative : (c : tie.Start) → SFits w32 (negℤ (c .args .x))
 negative c = fits-within (within-neg (c .pre .1)) tt

@@ -7,8 +7,8 @@ use mir.Val.{SFits}
 use mir.Facts.{toZ-ofZ}
 use Rattle.complex.proofs.Ring.{by-components}
 use Rattle.complex.proofs.Sizes.{fits-within}
-use Rattle.analyser.proofs.one.both_signed.Statement.{statement}
-use Rattle.analyser.proofs.one.both_signed.Tie as tie
+use Rattle.analyser.proofs.signed.both_signed.Statement.{statement}
+use Rattle.analyser.proofs.signed.both_signed.Tie as tie
 
 signed-requires : tie.Need-signed-requires
 signed-requires c κs = search needs
