@@ -2,13 +2,13 @@
 use mathlib.Core.Path.{_≡_, refl, sym, ap, ap₂, _∙_, subst}
 use mathlib.Core.Bool.{Bool, true, false, cond}
 use mathlib.Core.List.{List}
-use Prim.Native.Nat.{ℕ, zero, suc, _+_, _*_, _%_, _<_}
+use Prim.Native.Nat.{ℕ, _+_, _*_, _%_, _<_}
 use native.Mathlib.Omega.{arith}
 use lib.Dec.{T, eqb}
-use lib.IntN.{ℤ, pos, negsuc, negℤ, _+ℤ_, _-ℤ_, _*ℤ_, +ℤ-idl, +ℤ-idr}
+use lib.IntN.{ℤ, pos, negℤ, _+ℤ_, _-ℤ_, _*ℤ_, +ℤ-idl, +ℤ-idr}
 use Rattle.complex.specs.declared.Complex.{Complex}
-use Rattle.complex.specs.Arithmetic.{_+j_, real, 𝟎, _⊕_, _⊗_, conj, j^, Σ<}
-use Rattle.complex.specs.Buffers.{listed, value, in-buffers}
+use Rattle.complex.specs.Arithmetic.{_+j_, real, _⊕_, _⊗_, conj, j^, Σ<}
+use Rattle.complex.specs.Buffers.{value, in-buffers}
 use Rattle.complex.specs.Fits.{Both}
 use Rattle.complex.proofs.Integers.{ring}
 use Rattle.complex.proofs.Lists.{value-in-buffers}

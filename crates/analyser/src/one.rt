@@ -1,17 +1,16 @@
 // Readings at spreading factor 1: each chip times its weight. One component of a weight is 0 and the other 1 or -1, so that a product is a choice
 // between the chip's components and a change of sign, which are vector code where products of 32-bit numbers are not.
 ghost use mathlib.Core.Path.{_≡_};
-ghost use mathlib.Core.Bool.{true};
 ghost use mathlib.Core.List.{List};
 ghost use Prim.Native.Nat.{ℕ, _+_, _%_, _<_, _≤_};
-ghost use lib.IntN.{ℤ, pos, _+ℤ_, _-ℤ_, _*ℤ_};
+ghost use lib.IntN.{ℤ, pos, _+ℤ_, _-ℤ_};
 ghost use lib.ListN.{length};
 ghost use mir.Syntax.{w32};
 ghost use mir.Val.{SFits};
 ghost use Rattle.complex.specs.Arithmetic.{_+j_, _⊗_};
 ghost use Rattle.complex.specs.Buffers.{listed, value, written};
-ghost use Rattle.complex.specs.Fits.{Within, Both, Bound};
-ghost use Rattle.analyser.specs.Held.{is-sign, Turn, Turns};
+ghost use Rattle.complex.specs.Fits.{Both, Bound};
+ghost use Rattle.analyser.specs.Held.{Turn, Turns};
 ghost use Rattle.analyser.specs.Reading.{reading as reading-of};
 use crate::reading;
 use crate::signed::both_signed;
@@ -30,6 +29,7 @@ fn arranged(x: Complex, w: Complex) -> Complex
     }
 }
 
+// With one component 0: the sign of the real part.
 fn difference(w: Complex) -> i32
     requires { ⌜ SFits w32 (w .re -ℤ w .im) ⌝ }
     ensures { λ r. ⌜ r ≡ w .re -ℤ w .im ⌝ }
@@ -37,6 +37,7 @@ fn difference(w: Complex) -> i32
     w.re - w.im
 }
 
+// With one component 0: the sign of the imaginary part.
 fn sum(w: Complex) -> i32
     requires { ⌜ SFits w32 (w .re +ℤ w .im) ⌝ }
     ensures { λ r. ⌜ r ≡ w .re +ℤ w .im ⌝ }
@@ -57,7 +58,7 @@ pub struct Products {
     pub im: [i32; 16],
 }
 
-// The products of sixteen chips from `at` on, all read before any is written: the answer buffers might be the chips'.
+// The products of sixteen chips from `at` on, all read before any is written, for the compiler cannot tell the answer buffers from the chips'.
 fn sixteen_products(wre: &[i32; 16], wim: &[i32; 16], re: &[i32], im: &[i32], at: usize) -> Products
     requires { ⌜ (at + 16 ≤ length (now re)) × (at + 16 ≤ length (now im)) × Turns (now wre) (now wim) × Bound 100000 (now re) × Bound 100000 (now im) ⌝ }
     ensures real { λ r. ⌜ r .re ≡ listed 16 (λ i. (value (now (re .entry)) (now (im .entry)) (at + i) ⊗ value (now (wre .entry)) (now (wim .entry)) i) .re) ⌝ }

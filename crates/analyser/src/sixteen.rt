@@ -1,6 +1,5 @@
 // Readings at spreading factor 16. Each weight is 1 or -1, times j at even places, so the chips keep or change their signs and no product is needed.
 ghost use mathlib.Core.Path.{_≡_};
-ghost use mathlib.Core.Bool.{true};
 ghost use mathlib.Core.List.{List};
 ghost use Prim.Native.Nat.{ℕ, _+_, _*_, _/_, _<_, _≤_};
 ghost use lib.IntN.{ℤ, _*ℤ_};
@@ -12,7 +11,7 @@ ghost use Rattle.complex.specs.Buffers.{listed, value, written};
 ghost use Rattle.complex.specs.Fits.{Within, Both, Bound};
 ghost use Rattle.codes.specs.Held.{sign-bit};
 ghost use Rattle.codes.specs.Tree.{element};
-ghost use Rattle.analyser.specs.Held.{entry, is-sign, joined as joined-of, lane as lane-of, lanes-of, place-sign, Signs, turned as turned-of};
+ghost use Rattle.analyser.specs.Held.{entry, joined as joined-of, lane as lane-of, lanes-of, place-sign, Signs, turned as turned-of};
 ghost use Rattle.analyser.specs.Reading.{reading as reading-of};
 use crate::signed::both_signed;
 use codes::CellParameter;

@@ -1,16 +1,14 @@
 -- `all` meets its contract. The loop's invariant: the products passed are written. Assumes nothing.
 use mathlib.Core.Path.{_≡_, refl, sym, ap, _∙_}
 use mathlib.Core.List.{List}
-use Prim.Native.Nat.{ℕ, _+_, _*_, _/_, _%_, _≤_, _<_, _-_}
+use Prim.Native.Nat.{ℕ, _+_, _*_, _%_, _≤_, _-_}
 use native.Mathlib.Omega.{arith}
-use borrow.Author.Needs.{needs}
 use lib.IntN.{ℤ}
 use lib.ListN.{length}
 use Rattle.complex.specs.declared.Complex.{Complex}
 use Rattle.complex.specs.Arithmetic.{_⊗_}
 use Rattle.complex.specs.Buffers.{listed, value, written}
 use Rattle.complex.proofs.Lists.{listed-cong}
-use Rattle.analyser.specs.Reading.{reading}
 use Rattle.analyser.proofs.Turns.{turns, reading-one}
 use Rattle.analyser.proofs.one.all.Statement.{statement}
 use Rattle.analyser.proofs.one.all.Tie as tie

@@ -7,7 +7,7 @@ use mathlib.Core.List.{List}
 use lib.IntN.{ℤ}
 use lib.ListN.{length}
 use Rattle.complex.specs.declared.Complex.{Complex}
-use Rattle.complex.specs.Buffers.{listed, value, written}
+use Rattle.complex.specs.Buffers.{value, written}
 use Rattle.complex.specs.Fits.{Both}
 use Rattle.complex.proofs.Bounds.{value-both}
 use Rattle.complex.proofs.Lists.{listed-cong}

@@ -1,5 +1,4 @@
 -- `turned` meets its contract. Assumes nothing.
-use mathlib.Core.Path.{_≡_}
 use Prim.Native.Nat.{_%_}
 use borrow.Author.Tests.{lt-ltb, le-ltb}
 use lib.IntN.{negℤ}
