@@ -2,5 +2,8 @@
 pub mod Bounds
 pub mod Products
 pub mod Leading
+pub mod Leaders
+pub mod Halves
 pub mod Correlations
 pub mod Shares
+pub mod Rows

@@ -1,10 +1,11 @@
 -- How the code computes what the other files define. Nothing here is document 01's: the contracts of the public calls do not name it.
 use mathlib.Core.Path.{_≡_}
 use mathlib.Core.Logic.{_≢_}
-use lib.IntN.{ℤ, pos, _+ℤ_, _*ℤ_}
-use Prim.Native.Nat.{ℕ, _+_, _*_, _<_}
+use lib.IntN.{ℤ, pos, negℤ, _+ℤ_, _*ℤ_}
+use Prim.Native.Nat.{ℕ, _+_, _*_, _/_, _%_, _<_}
 use mathlib.Core.Bool.{true, false, _&&_, cond}
 use mathlib.Core.List.{List}
+use lib.Dec.{eqb}
 use lib.ListN.{getD}
 use lib.Signed.{leZ, ltZ}
 use Rattle.complex.specs.declared.Complex.{Complex}
@@ -20,6 +21,10 @@ use Rattle.sync_analyser.specs.declared.sync_reading.Leader.{Leader}
 -- the sum of sixteen entries, `step` apart from `from` on, with the signs of a row
 unfoldable pub signed-sum : List ℤ → ℕ → ℕ → ℕ → ℤ
 signed-sum x from step row = Σℤ< 16 (λ i. sign-bit row i *ℤ getD x (from + i * step) (pos 0))
+
+-- the sum of eight entries from `from` on, with the signs of a row from `at` on
+unfoldable pub half-sum : List ℤ → ℕ → ℕ → ℕ → ℤ
+half-sum x from row at = Σℤ< 8 (λ i. sign-bit row (at + i) *ℤ getD x (from + i) (pos 0))
 
 -- the sums of each 16 of 256 chips with the signs of a row
 abbrev pub part-sums : List ℤ → ℕ → List ℤ
@@ -40,9 +45,23 @@ share-of d m = (d (m .code) ⊗ conj (m .unit)) .re
 abbrev pub shares-of : (ℕ → Complex) → Allocated → ℤ
 shares-of d s = share-of d (s .first) +ℤ share-of d (s .second) +ℤ share-of d (s .marker)
 
--- the leader once candidate n with score v is met
-abbrev pub met : Leader → ℕ → ℤ → Leader
-met b n v = cond (ltZ (b .score) v) (record { at = n; score = v; alone = true }) (record { at = b .at; score = b .score; alone = ltZ v (b .score) && b .alone })
+-- the leader of x and -x, numbers 0 and 1
+abbrev pub leader-of-signs : ℤ → Leader
+leader-of-signs x = cond (ltZ x (pos 0)) (record { at = 1; score = negℤ x; alone = true }) (record { at = 0; score = x; alone = ltZ (pos 0) x })
+
+-- the leader of all sums of one of b's scores and one of c's two: sum 2m + n is of scores m and n
+abbrev pub leader-with : Leader → Leader → Leader
+leader-with b c = record { at = 2 * b .at + c .at; score = b .score +ℤ c .score; alone = b .alone && c .alone }
+
+-- the leader once the candidates from n on are met, c theirs
+abbrev pub leader-or-later : Leader → ℕ → Leader → Leader
+leader-or-later b n c =
+    cond (ltZ (b .score) (c .score)) (record { at = n + c .at; score = c .score; alone = c .alone })
+    (record { at = b .at; score = b .score; alone = ltZ (c .score) (b .score) && b .alone })
+
+-- which candidate of its row has the signs k: 4 where the first of the pair is negative, 2 the second, 1 the marker
+unfoldable pub place-in-row : ℕ → ℕ → ℕ
+place-in-row case k = cond (eqb case 1) k ((k / 4 + k / 2) % 2 * 4 + k / 4 * 2 + k % 2)
 
 -- of the scores s of n candidates, the leader has the largest, and is alone exactly where no other has it
 pub record Leads (s : ℕ → ℤ) (n : ℕ) (b : Leader) : Type 0 where
