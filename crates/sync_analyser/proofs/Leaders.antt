@@ -15,7 +15,7 @@ use Rattle.complex.specs.Fits.{Within}
 use Rattle.complex.proofs.Sizes.{within-add, within-more, within-mul}
 use Rattle.codes.specs.Signs.{minus-if}
 use Rattle.codes.proofs.Rows.{minus-if-within}
-use Rattle.sync_analyser.specs.Held.{leader-of-signs, leader-or-later, leader-with, Leads}
+use Rattle.sync_analyser.specs.Held.{leader-of-signs, leader-or-later, leader-with, Leads, Led}
 use Rattle.sync_analyser.specs.declared.sync_reading.Leader.{Leader}
 
 -- only the n scores count
@@ -202,11 +202,7 @@ module _ (x : ℤ) where
             tied = λ _. (1, omega arith, λ z. absurd (omega (arith, z)), other-sign ∙ e ∙ sym same-sign);
           }
 
--- ---- what such a leader can be: one of n, its score at most k in size
-pub record Led (k n : ℕ) (b : Leader) : Type 0 where
-  pub below : b .at < n
-  pub size : Within k (b .score)
-
+-- ---- sizes
 pub signs-led : {k : ℕ} {x : ℤ} → Within k x → Led k 2 (leader-of-signs x)
 signs-led {k} {x} h =
     let l = leads-of-signs x in

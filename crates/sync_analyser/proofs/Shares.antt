@@ -1,14 +1,14 @@
--- What the codes of an allocation add to a score: its size, and that it is the share of the definition. Assumes nothing.
+-- What the codes of an allocation add to a score is the share of the definition, and how large it can be. Assumes nothing.
 use mathlib.Core.Path.{_≡_, ap, _∙_, subst}
 use mathlib.Core.List.{List}
-use Prim.Native.Nat.{ℕ, _+_, _*_, _<_}
+use Prim.Native.Nat.{ℕ}
 use mathlib.Core.Bool.{Bool, true, false, cond}
 use lib.Dec.{T, lit≤}
 use lib.IntN.{ℤ, _+ℤ_}
 use Rattle.complex.specs.declared.Complex.{Complex}
 use Rattle.complex.specs.Arithmetic.{𝟎, _⊗_, conj}
 use Rattle.complex.specs.Buffers.{value, listed}
-use Rattle.complex.specs.Fits.{Within, Both, Bound}
+use Rattle.complex.specs.Fits.{Both, Bound}
 use Rattle.complex.proofs.Ring.{⊗-swap}
 use Rattle.complex.proofs.Components.{both-conj, both-⊗}
 use Rattle.complex.proofs.Lists.{value-in-buffers}
@@ -24,13 +24,6 @@ use Rattle.sync_analyser.specs.Held.{correlated, part-sums, product, sha
 use Rattle.complex.proofs.Bounds.{bound-listed}
 use Rattle.sync_analyser.proofs.Bounds.{signed-sum-within}
 use Rattle.sync_analyser.proofs.Correlations.{one-minus-j-within, primary-is, secondary-is}
-
-pub share-within : {k : ℕ} {d : ℕ → Complex} {m : ModulatedCode} → ((i : ℕ) → Both k (d i)) → Known m → Within (k * 1 + k * 1) (share-of d m)
-unfolding share-of
-share-within {k} {d} {m} h g = both-⊗ (h (m .code)) (both-conj (g .small)) .re
-
-pub known-below : {m : ModulatedCode} → Known m → m .code < 16
-known-below {m} g = sync-code-below (m .code) (g .listed)
 
 -- ---- from the products that the code holds to the scores of the definition
 module _ (re im dre dim : List ℤ)

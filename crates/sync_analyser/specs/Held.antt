@@ -11,6 +11,7 @@ use lib.Signed.{leZ, ltZ}
 use Rattle.complex.specs.declared.Complex.{Complex}
 use Rattle.complex.specs.Arithmetic.{_+j_, 𝟎, _⊗_, conj, Σℤ<, squared-size}
 use Rattle.complex.specs.Buffers.{listed}
+use Rattle.complex.specs.Fits.{Within}
 use Rattle.codes.specs.Held.{packed, sign-bit}
 use Rattle.sync_codes.specs.declared.ModulatedCode.{ModulatedCode}
 use Rattle.sync_codes.specs.declared.Allocated.{Allocated}
@@ -62,6 +63,17 @@ leader-or-later b n c =
 -- which candidate of its row has the signs k: 4 where the first of the pair is negative, 2 the second, 1 the marker
 unfoldable pub place-in-row : ℕ → ℕ → ℕ
 place-in-row case k = cond (eqb case 1) k ((k / 4 + k / 2) % 2 * 4 + k / 4 * 2 + k % 2)
+
+-- the leader of a row of the allocation table, from those of the signs of its pair and of its marker
+abbrev pub leader-of-row : ℕ → Leader → Leader → Leader → Leader
+leader-of-row case first second marker =
+    let b = leader-with (leader-with first second) marker in
+    record { at = place-in-row case (b .at); score = b .score; alone = b .alone }
+
+-- what a leader can be: one of n, its score at most k in size
+pub record Led (k n : ℕ) (b : Leader) : Type 0 where
+  pub below : b .at < n
+  pub size : Within k (b .score)
 
 -- of the scores s of n candidates, the leader has the largest, and is alone exactly where no other has it
 pub record Leads (s : ℕ → ℤ) (n : ℕ) (b : Leader) : Type 0 where

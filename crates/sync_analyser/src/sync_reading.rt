@@ -2,8 +2,8 @@
 ghost use mathlib.Core.Path.{_≡_};
 ghost use mathlib.Core.Bool.{true};
 ghost use Prim.Native.Nat.{_+_, _*_, _<_};
-ghost use lib.IntN.{_+ℤ_};
-ghost use lib.ListN.{length, take};
+ghost use lib.IntN.{pos, _+ℤ_};
+ghost use lib.ListN.{getD, length, take};
 ghost use mir.Syntax.{w64};
 ghost use mir.Val.{SFits};
 ghost use Rattle.complex.specs.Arithmetic.{_+j_, _⊗_, conj};
@@ -14,7 +14,7 @@ ghost use Rattle.codes.specs.Held.{packed};
 ghost use Rattle.sync_codes.specs.SyncCodes.{a, b};
 ghost use Rattle.sync_codes.specs.Allocation.{one-or-two};
 ghost use Rattle.sync_analyser.specs.SyncReading.{candidate as candidate-of, candidates, score as score-of, sent, sync-refusals};
-ghost use Rattle.sync_analyser.specs.Held.{correlated, leader-of-signs, leader-or-later, leader-with, Leads, part-sums, place-in-row, product as product-of, share-of, shares-of};
+ghost use Rattle.sync_analyser.specs.Held.{correlated, leader-of-row, leader-of-signs, leader-or-later, leader-with, Leads, Led, part-sums, place-in-row, product as product-of, shares-of};
 use crate::Candidate;
 use crate::sums::half_sum;
 use crate::sums::less;
@@ -27,7 +27,6 @@ use analyser::wide::minus;
 use analyser::wide::wide;
 use codes::CodeGroup;
 use complex::Complex;
-use sync_codes::ModulatedCode;
 use sync_codes::burst;
 use sync_codes::sync;
 
@@ -140,15 +139,6 @@ fn products(re: &[i32; 16], im: &[i32; 16], p: Complex) -> SecondaryProducts
     SecondaryProducts { re: x, im: y }
 }
 
-// How much a code with its unit u adds to a score: the real part of its product times the conjugate of u.
-fn share(re: &[i64; 16], im: &[i64; 16], m: ModulatedCode) -> i64
-    requires { ⌜ (m .code < 16) × Both 1 (m .unit) × Bound 5300000000000000 (now re) × Bound 5300000000000000 (now im) ⌝ }
-    ensures { λ r. ⌜ r ≡ share-of (value (now (re .entry)) (now (im .entry))) m ⌝ }
-{
-    let i = m.code as usize;
-    sum_of_products(re[i], wide(m.unit.re), im[i], wide(m.unit.im))
-}
-
 // Candidate n of a case: group by group, in a group frame by frame.
 pub fn candidate(case: u32, n: u32) -> Candidate
     ensures { λ r. ⌜ r ≡ candidate-of case n ⌝ }
@@ -177,7 +167,7 @@ pub struct Leader {
 
 // The leader of x and -x, numbers 0 and 1.
 fn of_signs(x: i64) -> Leader
-    requires { ⌜ Within 10600000000000000 x ⌝ }
+    requires { ⌜ Within 5300000000000000 x ⌝ }
     ensures { λ r. ⌜ r ≡ leader-of-signs x ⌝ }
 {
     if x < 0 {
@@ -195,6 +185,14 @@ fn of_signs(x: i64) -> Leader
     }
 }
 
+// The leader of a product's component and its negative, numbers 0 and 1.
+fn sign_leader(x: &[i64; 16], code: u32) -> Leader
+    requires { ⌜ (code < 16) × Bound 5300000000000000 (now x) ⌝ }
+    ensures { λ r. ⌜ r ≡ leader-of-signs (getD (now (x .entry)) code (pos 0)) ⌝ }
+{
+    of_signs(x[code as usize])
+}
+
 impl Leader {
     // The leader of all sums of one of these scores and one of two others: sum 2m + n is of scores m and n.
     fn with(self, other: Leader) -> Leader
@@ -210,7 +208,7 @@ impl Leader {
 
     // The leader once the candidates from n on are met, `later` theirs.
     fn or_later(self, n: u32, later: Leader) -> Leader
-        requires { ⌜ (n < 128) × (later .at < 8) ⌝ }
+        requires { ⌜ (n < 128) × (later .at < 32) ⌝ }
         ensures { λ r. ⌜ r ≡ leader-or-later self n later ⌝ }
     {
         if self.score < later.score {
@@ -240,17 +238,12 @@ fn place_in_row(case: u32, k: u32) -> u32
     }
 }
 
-// The leader of a row of the allocation table, candidates 8r to 8r + 7: they send the same codes, each with its own three signs, so the best
-// has those of the three shares, and it is alone where no share is 0.
-fn row_leader(re: &[i64; 16], im: &[i64; 16], case: u32, r: u32) -> Leader
-    requires { ⌜ (case < 3) × (r < 8 * case) × Bound 5300000000000000 (now re) × Bound 5300000000000000 (now im) ⌝ }
-    ensures { λ l. ⌜ Leads (λ k. shares-of (value (now (re .entry)) (now (im .entry))) (sent case (candidate-of case (8 * r + k)))) 8 l ⌝ }
+// The leader of a row of the allocation table. Its eight candidates send the same codes, each with its own three signs, so the best has
+// those of the three shares, and it is alone where no share is 0.
+fn row_leader(case: u32, first: Leader, second: Leader, marker: Leader) -> Leader
+    requires { ⌜ Led 5300000000000000 2 first × Led 5300000000000000 2 second × Led 5300000000000000 2 marker ⌝ }
+    ensures { λ r. ⌜ r ≡ leader-of-row case first second marker ⌝ }
 {
-    let c = candidate(case, 8 * r);
-    let codes = burst::allocated(case, c.group, c.frame, c.half);
-    let first = of_signs(share(re, im, codes.first));
-    let second = of_signs(share(re, im, codes.second));
-    let marker = of_signs(share(re, im, codes.marker));
     let best = first.with(second).with(marker);
     Leader {
         at: place_in_row(case, best.at),
@@ -259,14 +252,31 @@ fn row_leader(re: &[i64; 16], im: &[i64; 16], case: u32, r: u32) -> Leader
     }
 }
 
-// The leader of all candidates, row by row: 8 rows in case 1, 16 in case 2.
+// The leader of a code set (A, B, D), candidates 32n to 32n + 31: four rows share the signs of three products.
+fn set_leader(re: &[i64; 16], im: &[i64; 16], case: u32, n: u32) -> Leader
+    requires { ⌜ (case < 3) × (n < 2 * case) × Bound 5300000000000000 (now re) × Bound 5300000000000000 (now im) ⌝ }
+    ensures { λ l. ⌜ Leads (λ k. shares-of (value (now (re .entry)) (now (im .entry))) (sent case (candidate-of case (32 * n + k)))) 32 l ⌝ }
+{
+    let set = burst::code_set(1 + n);
+    let a = sign_leader(re, set.a);
+    let b = sign_leader(re, set.b);
+    let d = sign_leader(re, set.d);
+    let ja = sign_leader(im, set.a);
+    let jb = sign_leader(im, set.b);
+    let jd = sign_leader(im, set.d);
+    let two = row_leader(case, a, b, d).or_later(8, row_leader(case, ja, jb, d));
+    let three = two.or_later(16, row_leader(case, ja, jd, b));
+    three.or_later(24, row_leader(case, jb, jd, a))
+}
+
+// The leader of all candidates, set by set: two sets in case 1, four in case 2.
 fn lead_of_all(re: &[i64; 16], im: &[i64; 16], case: u32) -> Leader
     requires { ⌜ (one-or-two case ≡ true) × Bound 5300000000000000 (now re) × Bound 5300000000000000 (now im) ⌝ }
     ensures { λ r. ⌜ Leads (λ n. shares-of (value (now (re .entry)) (now (im .entry))) (sent case (candidate-of case n))) (candidates case) r ⌝ }
 {
-    let mut leader = row_leader(re, im, case, 0);
-    for r in 1..8 * case {
-        leader = leader.or_later(8 * r, row_leader(re, im, case, r));
+    let mut leader = set_leader(re, im, case, 0);
+    for n in 1..2 * case {
+        leader = leader.or_later(32 * n, set_leader(re, im, case, n));
     }
     leader
 }
