@@ -25,7 +25,7 @@ use Rattle.sync_codes.proofs.Rows.{a-test, a-signs-test, b-test}
 use Rattle.sync_codes.proofs.Parts.{Cp-parts, C-parts, secondary-signs, sync-code-below}
 use Rattle.sync_analyser.specs.SyncReading.{correlation, P, S}
 use Rattle.sync_analyser.specs.Finding.{size-from}
-use Rattle.sync_analyser.specs.Held.{correlated, part-sums, signed-sum, size-at}
+use Rattle.sync_analyser.specs.Held.{correlated, part-sums, primary-sum, signed-sum, size-of}
 
 pub times-one-minus-j : (z : Complex) → z ⊗ conj (pos 1 +j pos 1) ≡ (z .re +ℤ z .im) +j (z .im -ℤ z .re)
 unfolding _⊗_ conj
@@ -140,11 +140,7 @@ primary-is re im = correlation-is re im Cp (packed a) (packed a-signs) primary-p
 pub secondary-is : (re im : List ℤ) (k : ℕ) → T (is-sync-code k) → correlated (part-sums re (packed b)) (part-sums im (packed b)) (secondary-row k) ≡ S (value re im) k
 secondary-is re im k t = correlation-is re im (C k) (packed b) (secondary-row k) (secondary-parts k t)
 
--- what it makes of the sums over a recording is the squared size of P from a start on
-pub size-is : (re im : List ℤ) (n start : ℕ) → start + 240 < n
-    → size-at (listed n (λ p. signed-sum re p 1 (packed a))) (listed n (λ p. signed-sum im p 1 (packed a))) start ≡ size-from (value re im) start
-unfolding size-at size-from correlation stages
-size-is re im n start h =
-    ap squared-size
-    (ap₂ (λ (x y : ℤ). (x +j y) ⊗ conj (pos 1 +j pos 1)) (staged (λ p. signed-sum re p 1 (packed a)) n start 16 (packed a-signs) h) (staged (λ p. signed-sum im p 1 (packed a)) n start 16 (packed a-signs) h)
-    ∙ sym (by-stages re im start Cp (packed a) (packed a-signs) primary-parts))
+-- the squared size of what it makes of the sums from a start on is that of P
+pub size-is : (re im : List ℤ) (start : ℕ) → size-of (primary-sum re start) (primary-sum im start) ≡ size-from (value re im) start
+unfolding size-of primary-sum size-from correlation stages
+size-is re im start = ap squared-size (sym (by-stages re im start Cp (packed a) (packed a-signs) primary-parts))

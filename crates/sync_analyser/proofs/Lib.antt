@@ -5,5 +5,7 @@ pub mod Leading
 pub mod Leaders
 pub mod Halves
 pub mod Correlations
+pub mod Golay
+pub mod Blocks
 pub mod Shares
 pub mod Rows

@@ -1,7 +1,7 @@
 -- How the code computes what the other files define. Nothing here is document 01's: the contracts of the public calls do not name it.
 use mathlib.Core.Path.{_≡_}
 use mathlib.Core.Logic.{_≢_}
-use lib.IntN.{ℤ, pos, negℤ, _+ℤ_, _*ℤ_}
+use lib.IntN.{ℤ, pos, negℤ, natAbs, _+ℤ_, _-ℤ_, _*ℤ_}
 use Prim.Native.Nat.{ℕ, _+_, _*_, _/_, _%_, _<_}
 use mathlib.Core.Bool.{true, false, _&&_, cond}
 use mathlib.Core.List.{List}
@@ -15,8 +15,9 @@ use Rattle.complex.specs.Fits.{Within}
 use Rattle.codes.specs.Held.{packed, sign-bit}
 use Rattle.sync_codes.specs.declared.ModulatedCode.{ModulatedCode}
 use Rattle.sync_codes.specs.declared.Allocated.{Allocated}
-use Rattle.sync_codes.specs.SyncCodes.{a-signs, is-sync-code}
+use Rattle.sync_codes.specs.SyncCodes.{a, a-signs, is-sync-code}
 use Rattle.sync_codes.specs.Held.{secondary-row}
+use Rattle.analyser.specs.declared.largest.Largest.{Largest}
 use Rattle.sync_analyser.specs.declared.sync_reading.Leader.{Leader}
 
 -- the sum of sixteen entries, `step` apart from `from` on, with the signs of a row
@@ -83,7 +84,41 @@ pub record Leads (s : ℕ → ℤ) (n : ℕ) (b : Leader) : Type 0 where
   pub others : b .alone ≡ true → (k : ℕ) → k < n → k ≢ b .at → ltZ (s k) (s (b .at)) ≡ true
   pub tied : b .alone ≡ false → (k : ℕ) × (k < n) × (k ≢ b .at) × (s k ≡ s (b .at))
 
--- from the sums of 16 chips against a, the squared size of the correlation with the primary code
-unfoldable pub size-at : List ℤ → List ℤ → ℕ → ℤ
-size-at re im start =
-    squared-size ((signed-sum re start 16 (packed a-signs) +j signed-sum im start 16 (packed a-signs)) ⊗ conj (pos 1 +j pos 1))
+-- ---- the correlation with the primary code by steps
+abbrev pub entries : List ℤ → ℕ → ℤ
+entries l k = getD l k (pos 0)
+
+abbrev pub four-of : (ℕ → ℤ) → ℕ → ℕ → ℕ → ℕ → ℤ
+four-of x a b c p = x p +ℤ x (p + a) +ℤ (x (p + b) -ℤ x (p + c))
+
+-- the correlation of one component with the signs of the primary code from p on
+unfoldable pub primary-sum : List ℤ → ℕ → ℤ
+primary-sum x p = Σℤ< 16 (λ m. sign-bit (packed a-signs) m *ℤ signed-sum x (p + m * 16) 1 (packed a))
+
+-- from those of re and im, the squared size of the correlation
+unfoldable pub size-of : ℤ → ℤ → ℤ
+size-of x y = squared-size ((x +j y) ⊗ conj (pos 1 +j pos 1))
+
+abbrev pub sizes : List ℤ → List ℤ → ℕ → ℤ
+sizes re im k = size-of (entries re k) (entries im k)
+
+-- ---- the largest size by blocks
+-- -|x|, and the smaller of low and that
+abbrev pub lowered-of : ℤ → ℤ
+lowered-of x = cond (ltZ (pos 0) x) (negℤ x) x
+
+abbrev pub lower-of : ℤ → ℤ → ℤ
+lower-of low x = cond (ltZ (lowered-of x) low) (lowered-of x) low
+
+-- low is not positive, and as large as each of n entries
+pub record Covers (x : List ℤ) (from n : ℕ) (low : ℤ) : Type 0 where
+  pub sign : leZ low (pos 0) ≡ true
+  pub size : Within 25600000 low
+  pub each : (i : ℕ) → i < n → Within (natAbs low) (entries x (from + i))
+
+-- of `count` values s, the first n passed: the largest of them, the earliest where several are; before any, value 0
+pub record PeaksBelow (s : ℕ → ℤ) (count n : ℕ) (b : Largest) : Type 0 where
+  pub below : b .at < count
+  pub own : b .value ≡ s (b .at)
+  pub largest : (k : ℕ) → k < n → leZ (s k) (s (b .at)) ≡ true
+  pub earliest : (k : ℕ) → k < b .at → ltZ (s k) (s (b .at)) ≡ true
