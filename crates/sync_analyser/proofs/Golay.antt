@@ -94,16 +94,12 @@ module _ (x : List ℤ) where
   abbrev pub minus-pairs : ℕ → ℤ
   minus-pairs = four-of step-2 32 48 16
 
-  sum-is : (p : ℕ) → step-2 p ≡ signed-sum x p 1 (packed a)
+  sum-is : (p : ℕ) → step-2 p ≡ signed-sum x p (packed a)
   unfolding signed-sum
   sum-is p =
       let f = shifted (entries x) 1 8 9 p in
       (λ t. (ap step-1 (sym (add-zero p)) ∙ f 0) t +ℤ f 2 t +ℤ (f 4 t -ℤ f 6 t))
       ∙ a-by-fours (λ i. entries x (p + i))
-      ∙ Σℤ-cong 16 (λ i. sign-bit (packed a) i *ℤ entries x (p + i)) (λ i. sign-bit (packed a) i *ℤ getD x (p + i * 1) (pos 0)) (λ i l. ap (λ (j : ℕ). sign-bit (packed a) i *ℤ entries x j) (place i))
-    where
-      place : (i : ℕ) → p + i ≡ p + i * 1
-      place i = omega arith
 
   correlation-is : (p : ℕ) → whole-of plus-pairs minus-pairs p ≡ primary-sum x p
   unfolding primary-sum
@@ -112,7 +108,7 @@ module _ (x : List ℤ) where
       let v = shifted step-2 32 48 16 p in
       (λ t. (ap plus-pairs (sym (add-zero p)) ∙ u 0) t +ℤ u 128 t +ℤ (v 192 t -ℤ v 64 t))
       ∙ signs-by-fours (λ m. step-2 (p + m * 16))
-      ∙ Σℤ-cong 16 (λ m. sign-bit (packed a-signs) m *ℤ step-2 (p + m * 16)) (λ m. sign-bit (packed a-signs) m *ℤ signed-sum x (p + m * 16) 1 (packed a)) (λ m l. ap (λ (s : ℤ). sign-bit (packed a-signs) m *ℤ s) (sum-is (p + m * 16)))
+      ∙ Σℤ-cong 16 (λ m. sign-bit (packed a-signs) m *ℤ step-2 (p + m * 16)) (λ m. sign-bit (packed a-signs) m *ℤ signed-sum x (p + m * 16) (packed a)) (λ m l. ap (λ (s : ℤ). sign-bit (packed a-signs) m *ℤ s) (sum-is (p + m * 16)))
 
 -- ---- lists whose first m entries are those of f
 pub entry-held : (l : List ℤ) (m : ℕ) (f : ℕ → ℤ) → take m l ≡ listed m f → (k : ℕ) → k < m → entries l k ≡ f k

@@ -3,6 +3,7 @@ use mathlib.Core.Path.{_≡_, refl, sym, ap, ap₂, _∙_}
 use mathlib.Core.Bool.{Bool, _&&_}
 use mathlib.Core.List.{List}
 use Prim.Native.Nat.{ℕ, zero, suc, _+_, _*_, _<_}
+use native.Mathlib.Nat.{zero-add}
 use native.Mathlib.Omega.{arith}
 use mir.Facts.{and-yes}
 use lib.Dec.{T}
@@ -42,29 +43,23 @@ negated-test = tt
 
 module _ (x : List ℤ) (from : ℕ) where
   term : ℕ → ℕ → ℤ
-  term row i = sign-bit row i *ℤ getD x (from + i * 1) (pos 0)
+  term row i = sign-bit row i *ℤ getD x (from + i) (pos 0)
 
-  halves : (row : ℕ) → signed-sum x from 1 row ≡ half-sum x from row 0 +ℤ half-sum x (from + 8) row 8
+  halves : (row : ℕ) → signed-sum x from row ≡ half-sum x from row 0 +ℤ half-sum x (from + 8) row 8
   unfolding signed-sum half-sum term
   halves row =
       Σℤ-after 8 8 (term row)
       ∙ ap₂ (λ (s t : ℤ). s +ℤ t)
-      (Σℤ-cong 8 (term row) (λ i. sign-bit row (0 + i) *ℤ getD x (from + i) (pos 0)) (λ i l. first i))
+      (Σℤ-cong 8 (term row) (λ i. sign-bit row (0 + i) *ℤ getD x (from + i) (pos 0)) (λ i l. ap (λ (k : ℕ). sign-bit row k *ℤ getD x (from + i) (pos 0)) (sym (zero-add i))))
       (Σℤ-cong 8 (λ i. term row (8 + i)) (λ i. sign-bit row (8 + i) *ℤ getD x (from + 8 + i) (pos 0)) (λ i l. last i))
     where
-      first : (i : ℕ) → term row i ≡ sign-bit row (0 + i) *ℤ getD x (from + i) (pos 0)
-      first i =
-          let e : i ≡ 0 + i = omega arith in
-          let d : from + i * 1 ≡ from + i = omega arith in
-          λ t. sign-bit row (e t) *ℤ getD x (d t) (pos 0)
-
       last : (i : ℕ) → term row (8 + i) ≡ sign-bit row (8 + i) *ℤ getD x (from + 8 + i) (pos 0)
-      last i = let d : from + (8 + i) * 1 ≡ from + 8 + i = omega arith in λ t. sign-bit row (8 + i) *ℤ getD x (d t) (pos 0)
+      last i = let d : from + (8 + i) ≡ from + 8 + i = omega arith in λ t. sign-bit row (8 + i) *ℤ getD x (d t) (pos 0)
 
-  pub by-a : signed-sum x from 1 (packed a) ≡ half-sum x from (packed a) 0 +ℤ half-sum x (from + 8) (packed a) 8
+  pub by-a : signed-sum x from (packed a) ≡ half-sum x from (packed a) 0 +ℤ half-sum x (from + 8) (packed a) 8
   by-a = halves (packed a)
 
-  pub by-b : signed-sum x from 1 (packed b) ≡ half-sum x from (packed a) 0 -ℤ half-sum x (from + 8) (packed a) 8
+  pub by-b : signed-sum x from (packed b) ≡ half-sum x from (packed a) 0 -ℤ half-sum x (from + 8) (packed a) 8
   unfolding half-sum negated
   by-b =
       halves (packed b)
@@ -78,8 +73,7 @@ module _ (x : List ℤ) (from : ℕ) where
 
       first : (i : ℕ) → i < 8 → sign-bit (packed b) (0 + i) *ℤ getD x (from + i) (pos 0) ≡ sign-bit (packed a) (0 + i) *ℤ getD x (from + i) (pos 0)
       first i l =
-          let e : 0 + i ≡ i = omega arith in
-          rw e (ap (λ (s : ℤ). s *ℤ getD x (from + i) (pos 0)) (same→eq _ _ (tests i l .0)))
+          rw (zero-add i) (ap (λ (s : ℤ). s *ℤ getD x (from + i) (pos 0)) (same→eq _ _ (tests i l .0)))
 
       last : (i : ℕ) → i < 8 → sign-bit (packed b) (8 + i) *ℤ getD x (from + 8 + i) (pos 0) ≡ negℤ (sign-bit (packed a) (8 + i) *ℤ getD x (from + 8 + i) (pos 0))
       last i l =

@@ -54,11 +54,11 @@ module _ (re im dre dim : List ℤ)
 
 -- ---- sizes of what the code holds
 pub parts-bound : {x : List ℤ} → Bound 100000 x → (row : ℕ) → Bound 1600000 (part-sums x row)
-parts-bound h row = bound-listed 1600000 16 _ (λ m. signed-sum-within h _ _ _)
+parts-bound h row = bound-listed 1600000 16 _ (λ m. signed-sum-within h _ _)
 
 pub correlated-within : {re im : List ℤ} → Bound 1600000 re → Bound 1600000 im → (signs : ℕ) → Both 51200000 (correlated re im signs)
 unfolding correlated
-correlated-within h g signs = one-minus-j-within (record { re = signed-sum-within h _ _ _; im = signed-sum-within g _ _ _ })
+correlated-within h g signs = one-minus-j-within (record { re = signed-sum-within h _ _; im = signed-sum-within g _ _ })
 
 pub P-within : (re im : List ℤ) → Bound 100000 re → Bound 100000 im → Both 51200000 (P (value re im))
 P-within re im h g = subst (Both 51200000) (primary-is re im) (correlated-within (parts-bound h _) (parts-bound g _) _)

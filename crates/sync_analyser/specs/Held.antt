@@ -20,9 +20,9 @@ use Rattle.sync_codes.specs.Held.{secondary-row}
 use Rattle.analyser.specs.declared.largest.Largest.{Largest}
 use Rattle.sync_analyser.specs.declared.sync_reading.Leader.{Leader}
 
--- the sum of sixteen entries, `step` apart from `from` on, with the signs of a row
-unfoldable pub signed-sum : List ℤ → ℕ → ℕ → ℕ → ℤ
-signed-sum x from step row = Σℤ< 16 (λ i. sign-bit row i *ℤ getD x (from + i * step) (pos 0))
+-- the sum of sixteen entries from `from` on, with the signs of a row
+unfoldable pub signed-sum : List ℤ → ℕ → ℕ → ℤ
+signed-sum x from row = Σℤ< 16 (λ i. sign-bit row i *ℤ getD x (from + i) (pos 0))
 
 -- the sum of eight entries from `from` on, with the signs of a row from `at` on
 unfoldable pub half-sum : List ℤ → ℕ → ℕ → ℕ → ℤ
@@ -30,11 +30,11 @@ half-sum x from row at = Σℤ< 8 (λ i. sign-bit row (at + i) *ℤ getD x (from
 
 -- the sums of each 16 of 256 chips with the signs of a row
 abbrev pub part-sums : List ℤ → ℕ → List ℤ
-part-sums x row = listed 16 (λ m. signed-sum x (m * 16) 1 row)
+part-sums x row = listed 16 (λ m. signed-sum x (m * 16) row)
 
 -- from such sums of re and im, the correlation with a code whose parts have the signs of a row
 unfoldable pub correlated : List ℤ → List ℤ → ℕ → Complex
-correlated re im signs = (signed-sum re 0 1 signs +j signed-sum im 0 1 signs) ⊗ conj (pos 1 +j pos 1)
+correlated re im signs = (signed-sum re 0 signs +j signed-sum im 0 signs) ⊗ conj (pos 1 +j pos 1)
 
 -- the correlation with secondary code i times the conjugate of p, from the sums of the parts against b; 0 where no code has the number
 unfoldable pub product : List ℤ → List ℤ → Complex → ℕ → Complex
@@ -93,7 +93,7 @@ four-of x a b c p = x p +ℤ x (p + a) +ℤ (x (p + b) -ℤ x (p + c))
 
 -- the correlation of one component with the signs of the primary code from p on
 unfoldable pub primary-sum : List ℤ → ℕ → ℤ
-primary-sum x p = Σℤ< 16 (λ m. sign-bit (packed a-signs) m *ℤ signed-sum x (p + m * 16) 1 (packed a))
+primary-sum x p = Σℤ< 16 (λ m. sign-bit (packed a-signs) m *ℤ signed-sum x (p + m * 16) (packed a))
 
 -- from those of re and im, the squared size of the correlation
 unfoldable pub size-of : ℤ → ℤ → ℤ

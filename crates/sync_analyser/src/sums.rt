@@ -27,15 +27,15 @@ fn plus_signed(s: i32, sign: i32, x: i32) -> i32
     s + sign * x
 }
 
-// The sum of sixteen entries of x, `step` apart from `from` on, with the signs of a row.
-pub fn signed_sum(x: &[i32], from: usize, step: usize, row: u32) -> i32
-    requires { ⌜ (from + 15 * step < length (now x)) × (length (now x) ≤ 5120) × Bound 1600000 (now x) ⌝ }
-    ensures { λ r. ⌜ r ≡ signed-sum (now (x .entry)) from step row ⌝ }
+// The sum of sixteen entries with the signs of a row.
+pub fn signed_sum(x: &[i32; 16], row: u32) -> i32
+    requires { ⌜ Bound 1600000 (now x) ⌝ }
+    ensures { λ r. ⌜ r ≡ signed-sum (now (x .entry)) 0 row ⌝ }
 {
     let mut s: i32 = 0;
     for i in 0..16 {
         let sign = sign_at(row, i as u32);
-        s = plus_signed(s, sign, x[from + i * step]);
+        s = plus_signed(s, sign, x[i]);
     }
     s
 }

@@ -80,8 +80,8 @@ fn correlation(re: &[i32; 16], im: &[i32; 16], signs: u32) -> Complex
     ensures { λ r. ⌜ r ≡ correlated (now (re .entry)) (now (im .entry)) signs ⌝ }
 {
     times_one_minus_j(Complex {
-        re: signed_sum(re, 0, 1, signs),
-        im: signed_sum(im, 0, 1, signs),
+        re: signed_sum(re, signs),
+        im: signed_sum(im, signs),
     })
 }
 

@@ -22,7 +22,7 @@ use Rattle.sync_analyser.proofs.sync_reading.parts.Statement.{statement
 use Rattle.sync_analyser.proofs.sync_reading.parts.Tie as tie
 
 abbrev Inv-loop : tie.InvT-loop
-Inv-loop x row y₀ z₀ m₀ y z m = (m ≤ 16) × (y ≡ written (listed m (λ k. signed-sum x (k * 16) 1 (packed a))) y₀) × (z ≡ written (listed m (λ k. signed-sum x (k * 16) 1 (packed b))) z₀)
+Inv-loop x row y₀ z₀ m₀ y z m = (m ≤ 16) × (y ≡ written (listed m (λ k. signed-sum x (k * 16) (packed a))) y₀) × (z ≡ written (listed m (λ k. signed-sum x (k * 16) (packed b))) z₀)
 
 abbrev μ-loop : tie.MeasureT-loop
 μ-loop x row y₀ z₀ m₀ y z m = 16 - m
@@ -120,8 +120,8 @@ loop-again c =
     let sum = toZ-ofZ f ∙ c .before .plus .ensures ∙ (λ i. first-is h i +ℤ last-is h i) ∙ sym (by-a x (l .m * 16)) in
     let difference = toZ-ofZ g ∙ c .less .ensures ∙ (λ i. first-is h i -ℤ last-is h i) ∙ sym (by-b x (l .m * 16)) in (
       omega arith,
-      (λ j. set (l .inv .1 j) (l .m) (sum j)) ∙ one-more-written (λ k. signed-sum x (k * 16) 1 (packed a)) _ (l .m) (omega arith),
-      (λ j. set (l .inv .2 j) (l .m) (difference j)) ∙ one-more-written (λ k. signed-sum x (k * 16) 1 (packed b)) _ (l .m) (omega arith),
+      (λ j. set (l .inv .1 j) (l .m) (sum j)) ∙ one-more-written (λ k. signed-sum x (k * 16) (packed a)) _ (l .m) (omega arith),
+      (λ j. set (l .inv .2 j) (l .m) (difference j)) ∙ one-more-written (λ k. signed-sum x (k * 16) (packed b)) _ (l .m) (omega arith),
     )
 
 returns : tie.Need-returns Inv-loop μ-loop
