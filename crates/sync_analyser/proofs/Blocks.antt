@@ -10,7 +10,7 @@ use lib.IntN.{ℤ, pos, negsuc, negℤ, natAbs, _+ℤ_, _-ℤ_, _*ℤ_}
 use lib.Signed.{leZ, ltZ}
 use mir.Syntax.{w64}
 use mir.Val.{SFits}
-use Rattle.complex.specs.Arithmetic.{_+j_, _⊗_, conj, squared-size}
+use Rattle.complex.specs.Arithmetic.{_+j_, squared-size}
 use Rattle.complex.specs.Fits.{Within}
 use Rattle.complex.proofs.Integers.{ring, abs-parts, by-parts, pos-part, +ℤ-parts, negℤ-pos-part, negℤ-neg-part}
 use Rattle.complex.proofs.Order.{ltZ-true, ltZ-false, leZ-true, le-leZ, lt-ltZ}

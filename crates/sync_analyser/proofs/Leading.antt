@@ -1,21 +1,19 @@
 -- The leader of all candidates is the one that beats every other, or there is none where it is not alone. Assumes nothing.
-use mathlib.Core.Path.{_≡_, refl, sym, ap, _∙_, subst}
+use mathlib.Core.Path.{_≡_, sym, ap, _∙_}
 use mathlib.Core.Logic.{_≢_}
-use mathlib.Core.Bool.{Bool, true, false, _&&_, _||_, cond}
-use Prim.Native.Nat.{ℕ, _+_, _<_}
+use mathlib.Core.Bool.{true, false, _||_}
+use Prim.Native.Nat.{ℕ, _<_}
 use native.Mathlib.Decide.{ℕ-discrete}
 use native.Mathlib.Omega.{arith}
 use borrow.Author.Tests.{eq-eqb, ne-eqb}
-use lib.Dec.{T, eqb}
+use lib.Dec.{eqb}
 use lib.IntN.{ℤ}
-use lib.Signed.{leZ, ltZ}
-use Rattle.complex.proofs.Integers.{by-parts}
-use Rattle.complex.proofs.Order.{ltZ-true, ltZ-false, leZ-true, le-leZ, lt-ltZ, le-ltZ}
+use lib.Signed.{ltZ}
+use Rattle.complex.proofs.Order.{ltZ-true, leZ-true, le-ltZ}
 use Rattle.codes.specs.Range.{each}
 use Rattle.codes.proofs.Tests.{each-all, each-not}
 use Rattle.analyser.specs.Choice.{smallest, beats-others}
 use Rattle.analyser.proofs.Smallest.{smallest-is, smallest-none}
-use Rattle.analyser.proofs.Choosing.{next}
 use Rattle.sync_analyser.specs.Held.{Leads}
 use Rattle.sync_analyser.specs.declared.sync_reading.Leader.{Leader}
 

@@ -1,7 +1,7 @@
 -- `correlate` meets its contract: the buffers hold the steps of the Golay sequence. Assumes nothing.
 use mathlib.Core.Path.{_≡_, sym, ap, _∙_, subst}
 use mathlib.Core.List.{List}
-use Prim.Native.Nat.{ℕ, _+_, _-_, _<_}
+use Prim.Native.Nat.{ℕ, _+_, _-_}
 use native.Mathlib.Omega.{arith}
 use borrow.Author.Needs.{needs}
 use lib.Dec.{lit≤}
@@ -11,7 +11,7 @@ use Rattle.complex.specs.Buffers.{listed}
 use Rattle.complex.specs.Fits.{Within, Bound}
 use Rattle.complex.proofs.Bounds.{bound-more}
 use Rattle.complex.proofs.Lists.{length-listed, listed-at, take-written}
-use Rattle.sync_analyser.specs.Held.{entries, four-of}
+use Rattle.sync_analyser.specs.Held.{entries}
 use Rattle.sync_analyser.proofs.Golay.{bound-held, entry-held, four-held, four-within, minus-pairs, plus-pairs, step-1, step-2, whole-held}
 use Rattle.sync_analyser.proofs.finding.correlate.Statement.{statement}
 use Rattle.sync_analyser.proofs.finding.correlate.Tie as tie

@@ -6,7 +6,7 @@ use borrow.Author.Needs.{needs}
 use lib.IntN.{_+ℤ_, _-ℤ_}
 use lib.ListN.{length, set, length-set}
 use mir.Syntax.{w32}
-use mir.Val.{SFits, toZ, ofZ}
+use mir.Val.{SFits}
 use mir.Facts.{toZ-ofZ}
 use Rattle.complex.specs.Buffers.{listed, written}
 use Rattle.complex.specs.Fits.{Within}

@@ -10,7 +10,7 @@ use Rattle.complex.proofs.Bounds.{bound-listed, bound-more}
 use Rattle.codes.specs.Held.{packed}
 use Rattle.sync_codes.specs.SyncCodes.{b}
 use Rattle.sync_analyser.specs.SyncReading.{candidates, P}
-use Rattle.sync_analyser.specs.Held.{correlated, Leads, part-sums, product}
+use Rattle.sync_analyser.specs.Held.{correlated, Leads, product}
 use Rattle.sync_analyser.proofs.Correlations.{primary-is}
 use Rattle.sync_analyser.proofs.Shares.{P-within, parts-bound, product-within, scores-are}
 use Rattle.sync_analyser.proofs.sync_reading.lead.Statement.{statement}

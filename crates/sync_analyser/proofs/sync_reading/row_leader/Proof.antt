@@ -8,7 +8,7 @@ use mir.Facts.{toZ-ofZ}
 use Rattle.complex.proofs.Sizes.{within-add, fits-within}
 use Rattle.sync_analyser.specs.Held.{leader-with, Led, place-in-row}
 use Rattle.sync_analyser.specs.declared.sync_reading.Leader.{Leader}
-use Rattle.sync_analyser.proofs.Leaders.{with-led}
+use Rattle.sync_analyser.proofs.SumLeaders.{with-led}
 use Rattle.sync_analyser.proofs.sync_reading.row_leader.Statement.{statement}
 use Rattle.sync_analyser.proofs.sync_reading.row_leader.Tie as tie
 

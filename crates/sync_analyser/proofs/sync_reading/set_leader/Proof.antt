@@ -10,8 +10,9 @@ use Rattle.sync_codes.specs.declared.burst.CodeSet.{CodeSet}
 use Rattle.sync_codes.specs.Allocation.{code-set}
 use Rattle.sync_analyser.specs.Held.{leader-of-row, leader-of-signs, leader-or-later, Leads, Led}
 use Rattle.sync_analyser.specs.declared.sync_reading.Leader.{Leader}
-use Rattle.sync_analyser.proofs.Leaders.{signs-led}
-use Rattle.sync_analyser.proofs.Rows.{row-below, set-below, set-leads}
+use Rattle.sync_analyser.proofs.SumLeaders.{signs-led}
+use Rattle.sync_analyser.proofs.Rows.{row-below}
+use Rattle.sync_analyser.proofs.Sets.{set-below, set-leads}
 use Rattle.sync_analyser.proofs.sync_reading.set_leader.Statement.{statement}
 use Rattle.sync_analyser.proofs.sync_reading.set_leader.Tie as tie
 
