@@ -9,6 +9,6 @@ use Rattle.complex.proofs.Components.{within-Σℤ}
 use Rattle.codes.proofs.Rows.{sign-within}
 use Rattle.sync_analyser.specs.Held.{signed-sum}
 
-pub signed-sum-within : {k : ℕ} {x : List ℤ} → Bound k x → (from step row : ℕ) → Within (16 * k) (signed-sum x from step row)
+pub signed-sum-within : {k : ℕ} {x : List ℤ} → Bound k x → (from row : ℕ) → Within (16 * k) (signed-sum x from row)
 unfolding signed-sum
-signed-sum-within {k} h from step row = within-Σℤ k 16 _ (λ i l. within-more (within-mul (sign-within _ _) (h .at _)) k (omega arith))
+signed-sum-within {k} h from row = within-Σℤ k 16 _ (λ i l. within-more (within-mul (sign-within _ _) (h .at _)) k (omega arith))

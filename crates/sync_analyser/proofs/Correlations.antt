@@ -1,10 +1,10 @@
 -- A correlation with a sync code is made of sums of sixteen: the law that joins the code to the definition. Assumes nothing.
 use mathlib.Core.Path.{_≡_, sym, ap, ap₂, _∙_, subst}
 use mathlib.Core.List.{List}
-use Prim.Native.Nat.{ℕ, _+_, _*_, _-_, _<_, _≤_}
-use native.Mathlib.Nat.{mul-le-mul-right, zero-add}
+use Prim.Native.Nat.{ℕ, _+_, _*_, _<_}
+use native.Mathlib.Nat.{zero-add}
 use native.Mathlib.Omega.{arith}
-use lib.Dec.{T, lit<}
+use lib.Dec.{T}
 use lib.IntN.{ℤ, pos, negℤ, _+ℤ_, _-ℤ_, _*ℤ_}
 use lib.ListN.{getD}
 use Rattle.complex.specs.declared.Complex.{Complex}
@@ -25,7 +25,7 @@ use Rattle.sync_codes.proofs.Rows.{a-test, a-signs-test, b-test}
 use Rattle.sync_codes.proofs.Parts.{Cp-parts, C-parts, secondary-signs, sync-code-below}
 use Rattle.sync_analyser.specs.SyncReading.{correlation, P, S}
 use Rattle.sync_analyser.specs.Finding.{size-from}
-use Rattle.sync_analyser.specs.Held.{correlated, part-sums, signed-sum, size-at}
+use Rattle.sync_analyser.specs.Held.{correlated, part-sums, primary-sum, signed-sum, size-of}
 
 pub times-one-minus-j : (z : Complex) → z ⊗ conj (pos 1 +j pos 1) ≡ (z .re +ℤ z .im) +j (z .im -ℤ z .re)
 unfolding _⊗_ conj
@@ -44,28 +44,25 @@ one-minus-j-within {k} {z} h =
 -- ---- a code is sixteen parts of sixteen chips: the parts have the signs of one row, the chips of a part those of another
 -- sixteen sums of sixteen
 stages : List ℤ → ℕ → ℕ → ℕ → ℤ
-stages x start row signs = Σℤ< 16 (λ m. sign-bit signs m *ℤ signed-sum x (start + m * 16) 1 row)
+stages x start row signs = Σℤ< 16 (λ m. sign-bit signs m *ℤ signed-sum x (start + m * 16) row)
 
 -- they are what a signed sum makes of a list of signed sums
-staged : (f : ℕ → ℤ) (n from step signs : ℕ) → from + 15 * step < n → signed-sum (listed n f) from step signs ≡ Σℤ< 16 (λ m. sign-bit signs m *ℤ f (from + m * step))
+staged : (f : ℕ → ℤ) (signs : ℕ) → signed-sum (listed 16 f) 0 signs ≡ Σℤ< 16 (λ m. sign-bit signs m *ℤ f m)
 unfolding signed-sum
-staged f n from step signs h =
-    Σℤ-cong 16 (λ m. sign-bit signs m *ℤ getD (listed n f) (from + m * step) (pos 0)) (λ m. sign-bit signs m *ℤ f (from + m * step))
-    (λ m l. ap (λ (t : ℤ). sign-bit signs m *ℤ t) (listed-at f (pos 0) n (from + m * step) (below m l)))
-  where
-    below : (m : ℕ) → m < 16 → from + m * step < n
-    below m l = let g : m * step ≤ 15 * step = mul-le-mul-right step (omega arith) in omega (arith, g)
+staged f signs =
+    Σℤ-cong 16 (λ m. sign-bit signs m *ℤ getD (listed 16 f) (0 + m) (pos 0)) (λ m. sign-bit signs m *ℤ f m)
+    (λ m l. ap (λ (t : ℤ). sign-bit signs m *ℤ t) (ap (λ (k : ℕ). getD (listed 16 f) k (pos 0)) (zero-add m) ∙ listed-at f (pos 0) 16 m l))
 
 module _ (re im : List ℤ) (start : ℕ) where
   -- one part
-  part-is : (m row : ℕ) → Σ< 16 (λ i. real (sign-bit row i) ⊗ value re im (start + (m * 16 + i))) ≡ signed-sum re (start + m * 16) 1 row +j signed-sum im (start + m * 16) 1 row
+  part-is : (m row : ℕ) → Σ< 16 (λ i. real (sign-bit row i) ⊗ value re im (start + (m * 16 + i))) ≡ signed-sum re (start + m * 16) row +j signed-sum im (start + m * 16) row
   unfolding signed-sum
   part-is m row =
-      Σ-cong 16 _ (λ i. sign-bit row i *ℤ getD re (start + m * 16 + i * 1) (pos 0) +j sign-bit row i *ℤ getD im (start + m * 16 + i * 1) (pos 0))
-      (λ i l. ap (λ (n : ℕ). real (sign-bit row i) ⊗ value re im n) (place i) ∙ real-⊗ (sign-bit row i) (value re im (start + m * 16 + i * 1)))
-      ∙ Σ-components 16 (λ i. sign-bit row i *ℤ getD re (start + m * 16 + i * 1) (pos 0)) (λ i. sign-bit row i *ℤ getD im (start + m * 16 + i * 1) (pos 0))
+      Σ-cong 16 _ (λ i. sign-bit row i *ℤ getD re (start + m * 16 + i) (pos 0) +j sign-bit row i *ℤ getD im (start + m * 16 + i) (pos 0))
+      (λ i l. ap (λ (n : ℕ). real (sign-bit row i) ⊗ value re im n) (place i) ∙ real-⊗ (sign-bit row i) (value re im (start + m * 16 + i)))
+      ∙ Σ-components 16 (λ i. sign-bit row i *ℤ getD re (start + m * 16 + i) (pos 0)) (λ i. sign-bit row i *ℤ getD im (start + m * 16 + i) (pos 0))
     where
-      place : (i : ℕ) → start + (m * 16 + i) ≡ start + m * 16 + i * 1
+      place : (i : ℕ) → start + (m * 16 + i) ≡ start + m * 16 + i
       place i = omega arith
 
   module _ (code : ℕ → Complex) (row signs : ℕ)
@@ -93,17 +90,17 @@ module _ (re im : List ℤ) (start : ℕ) where
         ∙ sym (⊗-Σ 16 (λ i. real (sign-bit signs m) ⊗ chip m i) one-minus-j)
         ∙ ap (λ (t : Complex). one-minus-j ⊗ t)
         (sym (⊗-Σ 16 (chip m) (real (sign-bit signs m))) ∙ ap (λ (t : Complex). real (sign-bit signs m) ⊗ t) (part-is m row)
-        ∙ real-⊗ (sign-bit signs m) (signed-sum re (start + m * 16) 1 row +j signed-sum im (start + m * 16) 1 row)))
+        ∙ real-⊗ (sign-bit signs m) (signed-sum re (start + m * 16) row +j signed-sum im (start + m * 16) row)))
         ∙ sym (⊗-Σ 16 whole one-minus-j)
         ∙ ⊗-comm one-minus-j (Σ< 16 whole)
         ∙ ap (λ (t : Complex). t ⊗ one-minus-j)
-        (Σ-components 16 (λ m. sign-bit signs m *ℤ signed-sum re (start + m * 16) 1 row) (λ m. sign-bit signs m *ℤ signed-sum im (start + m * 16) 1 row))
+        (Σ-components 16 (λ m. sign-bit signs m *ℤ signed-sum re (start + m * 16) row) (λ m. sign-bit signs m *ℤ signed-sum im (start + m * 16) row))
       where
         chip : ℕ → ℕ → Complex
         chip m i = real (sign-bit row i) ⊗ value re im (start + (m * 16 + i))
 
         whole : ℕ → Complex
-        whole m = sign-bit signs m *ℤ signed-sum re (start + m * 16) 1 row +j sign-bit signs m *ℤ signed-sum im (start + m * 16) 1 row
+        whole m = sign-bit signs m *ℤ signed-sum re (start + m * 16) row +j sign-bit signs m *ℤ signed-sum im (start + m * 16) row
 
 -- ---- the sync codes
 primary-parts : (m i : ℕ) → m < 16 → i < 16 → Cp (m * 16 + i) ≡ real (sign-bit (packed a-signs) m *ℤ sign-bit (packed a) i) ⊗ (pos 1 +j pos 1)
@@ -126,13 +123,10 @@ correlation-is re im code row signs parts =
     ∙ sym (by-stages re im 0 code row signs parts)
     ∙ Σ-cong 256 _ (λ n. value re im n ⊗ conj (code n)) (λ n l. ap (λ (k : ℕ). value re im k ⊗ conj (code n)) (zero-add n))
   where
-    place : (m : ℕ) → (0 + m * 1) * 16 ≡ 0 + m * 16
-    place m = omega arith
-
-    stages-of : (x : List ℤ) → signed-sum (part-sums x row) 0 1 signs ≡ Σℤ< 16 (λ m. sign-bit signs m *ℤ signed-sum x (0 + m * 16) 1 row)
+    stages-of : (x : List ℤ) → signed-sum (part-sums x row) 0 signs ≡ Σℤ< 16 (λ m. sign-bit signs m *ℤ signed-sum x (0 + m * 16) row)
     stages-of x =
-        staged (λ m. signed-sum x (m * 16) 1 row) 16 0 1 signs (lit< tt)
-        ∙ Σℤ-cong 16 _ (λ m. sign-bit signs m *ℤ signed-sum x (0 + m * 16) 1 row) (λ m l. ap (λ (n : ℕ). sign-bit signs m *ℤ signed-sum x n 1 row) (place m))
+        staged (λ m. signed-sum x (m * 16) row) signs
+        ∙ Σℤ-cong 16 _ (λ m. sign-bit signs m *ℤ signed-sum x (0 + m * 16) row) (λ m l. ap (λ (n : ℕ). sign-bit signs m *ℤ signed-sum x n row) (sym (zero-add (m * 16))))
 
 pub primary-is : (re im : List ℤ) → correlated (part-sums re (packed a)) (part-sums im (packed a)) (packed a-signs) ≡ P (value re im)
 primary-is re im = correlation-is re im Cp (packed a) (packed a-signs) primary-parts
@@ -140,11 +134,7 @@ primary-is re im = correlation-is re im Cp (packed a) (packed a-signs) primary-p
 pub secondary-is : (re im : List ℤ) (k : ℕ) → T (is-sync-code k) → correlated (part-sums re (packed b)) (part-sums im (packed b)) (secondary-row k) ≡ S (value re im) k
 secondary-is re im k t = correlation-is re im (C k) (packed b) (secondary-row k) (secondary-parts k t)
 
--- what it makes of the sums over a recording is the squared size of P from a start on
-pub size-is : (re im : List ℤ) (n start : ℕ) → start + 240 < n
-    → size-at (listed n (λ p. signed-sum re p 1 (packed a))) (listed n (λ p. signed-sum im p 1 (packed a))) start ≡ size-from (value re im) start
-unfolding size-at size-from correlation stages
-size-is re im n start h =
-    ap squared-size
-    (ap₂ (λ (x y : ℤ). (x +j y) ⊗ conj (pos 1 +j pos 1)) (staged (λ p. signed-sum re p 1 (packed a)) n start 16 (packed a-signs) h) (staged (λ p. signed-sum im p 1 (packed a)) n start 16 (packed a-signs) h)
-    ∙ sym (by-stages re im start Cp (packed a) (packed a-signs) primary-parts))
+-- the squared size of what it makes of the sums from a start on is that of P
+pub size-is : (re im : List ℤ) (start : ℕ) → size-of (primary-sum re start) (primary-sum im start) ≡ size-from (value re im) start
+unfolding size-of primary-sum size-from correlation stages
+size-is re im start = ap squared-size (sym (by-stages re im start Cp (packed a) (packed a-signs) primary-parts))

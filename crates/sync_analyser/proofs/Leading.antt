@@ -1,22 +1,20 @@
--- The scan that keeps the leader and whether it leads alone finds the one that beats every other, or that none does. Assumes nothing.
-use mathlib.Core.Path.{_≡_, refl, sym, ap, _∙_, subst}
+-- The leader of all candidates is the one that beats every other, or there is none where it is not alone. Assumes nothing.
+use mathlib.Core.Path.{_≡_, sym, ap, _∙_}
 use mathlib.Core.Logic.{_≢_}
-use mathlib.Core.Bool.{Bool, true, false, _&&_, _||_, cond}
-use Prim.Native.Nat.{ℕ, _+_, _<_}
+use mathlib.Core.Bool.{true, false, _||_}
+use Prim.Native.Nat.{ℕ, _<_}
 use native.Mathlib.Decide.{ℕ-discrete}
 use native.Mathlib.Omega.{arith}
 use borrow.Author.Tests.{eq-eqb, ne-eqb}
-use lib.Dec.{T, eqb}
+use lib.Dec.{eqb}
 use lib.IntN.{ℤ}
-use lib.Signed.{leZ, ltZ}
-use Rattle.complex.proofs.Integers.{by-parts}
-use Rattle.complex.proofs.Order.{ltZ-true, ltZ-false, leZ-true, le-leZ, lt-ltZ, le-ltZ}
+use lib.Signed.{ltZ}
+use Rattle.complex.proofs.Order.{ltZ-true, leZ-true, le-ltZ}
 use Rattle.codes.specs.Range.{each}
 use Rattle.codes.proofs.Tests.{each-all, each-not}
 use Rattle.analyser.specs.Choice.{smallest, beats-others}
 use Rattle.analyser.proofs.Smallest.{smallest-is, smallest-none}
-use Rattle.analyser.proofs.Choosing.{next}
-use Rattle.sync_analyser.specs.Held.{met, Leads}
+use Rattle.sync_analyser.specs.Held.{Leads}
 use Rattle.sync_analyser.specs.declared.sync_reading.Leader.{Leader}
 
 -- ---- the number whose value is larger than that of every other
@@ -36,70 +34,8 @@ module _ (n : ℕ) (s : ℕ → ℤ) (own : ℕ) (l : own < n) (more : (k : ℕ)
   pub beats-all : smallest n (beats-others n s) ≡ own
   beats-all = smallest-is n (beats-others n s) own l beats beaten
 
--- ---- the scan
+-- ---- the leader
 module _ (s : ℕ → ℤ) where
-  pub leads-one : (b : Leader) → b .at ≡ 0 → b .score ≡ s 0 → b .alone ≡ true → Leads s 1 b
-  leads-one b z e a =
-      record {
-        below = omega (arith, z);
-        own = e ∙ ap s (sym z);
-        largest = λ k l. let q : k ≡ b .at = omega (arith, z) in ap (λ (j : ℕ). leZ (s j) (s (b .at))) q ∙ le-leZ (s (b .at)) (s (b .at)) (omega arith);
-        others = λ _ k l d. absurd (d (omega (arith, z)));
-        tied = λ f. absurd (subst T (sym a ∙ f) tt);
-      }
-
-  pub leads-more : (n : ℕ) (b : Leader) → Leads s n b → (v : ℤ) → v ≡ s n → Leads s (n + 1) (met b n v)
-  leads-more n b h v e = go (ltZ (b .score) v) refl (ltZ v (b .score)) refl
-    where
-      above : {t : Bool} → ltZ (b .score) v ≡ t → ltZ (s (b .at)) (s n) ≡ t
-      above q = sym (λ i. ltZ (h .own i) (e i)) ∙ q
-
-      under : {t : Bool} → ltZ v (b .score) ≡ t → ltZ (s n) (s (b .at)) ≡ t
-      under q = sym (λ i. ltZ (e i) (h .own i)) ∙ q
-
-      -- the new one passes the leader
-      passed : ltZ (s (b .at)) (s n) ≡ true → (k : ℕ) → k < n → ltZ (s k) (s n) ≡ true
-      passed q k l = lt-ltZ (s k) (s n) (omega (arith, ltZ-true (s (b .at)) (s n) q, leZ-true (s k) (s (b .at)) (h .largest k l)))
-
-      -- it does not
-      kept : ltZ (s (b .at)) (s n) ≡ false → (k : ℕ) → k < n + 1 → leZ (s k) (s (b .at)) ≡ true
-      kept q = next (λ k. leZ (s k) (s (b .at)) ≡ true) n (h .largest) (le-leZ (s n) (s (b .at)) (omega (arith, ltZ-false (s (b .at)) (s n) q)))
-
-      go : (t : Bool) → ltZ (b .score) v ≡ t → (u : Bool) → ltZ v (b .score) ≡ u
-          → Leads s (n + 1) (cond t (record { at = n; score = v; alone = true }) (record { at = b .at; score = b .score; alone = u && b .alone }))
-      go true q u w =
-          record {
-            below = omega arith;
-            own = e;
-            largest =
-                next (λ k. leZ (s k) (s n) ≡ true) n
-                (λ k l. le-leZ (s k) (s n) (omega (arith, ltZ-true (s k) (s n) (passed (above q) k l)))) (le-leZ (s n) (s n) (omega arith));
-            others = λ _ k l d. passed (above q) k (omega arith);
-            tied = λ f. absurd (subst T f tt);
-          }
-      go false q true w =
-          record {
-            below = omega (arith, h .below);
-            own = h .own;
-            largest = kept (above q);
-            others = λ a. next (λ k. k ≢ b .at → ltZ (s k) (s (b .at)) ≡ true) n (h .others a) (λ d. under w);
-            tied = λ f. let t = h .tied f in (t .0, omega (arith, t .1), t .2, t .3);
-          }
-      go false q false w =
-          record {
-            below = omega (arith, h .below);
-            own = h .own;
-            largest = kept (above q);
-            others = λ a. absurd (subst T (sym a) tt);
-            tied =
-                λ _. (
-                  n,
-                  omega arith,
-                  λ z. absurd (omega (arith, h .below, z)),
-                  by-parts (s n) (s (b .at)) (omega (arith, ltZ-false (s (b .at)) (s n) (above q), ltZ-false (s n) (s (b .at)) (under w))),
-                );
-          }
-
   -- a leader that is alone is the one that beats every other; where it is not alone, none does
   module _ (n : ℕ) (b : Leader) (h : Leads s n b) where
     pub leads-is : b .alone ≡ true → smallest n (beats-others n s) ≡ b .at

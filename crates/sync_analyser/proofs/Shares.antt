@@ -1,14 +1,14 @@
--- What the codes of an allocation add to a score: its size, and that it is the share of the definition. Assumes nothing.
+-- What the codes of an allocation add to a score is the share of the definition, and how large it can be. Assumes nothing.
 use mathlib.Core.Path.{_≡_, ap, _∙_, subst}
 use mathlib.Core.List.{List}
-use Prim.Native.Nat.{ℕ, _+_, _*_, _<_}
+use Prim.Native.Nat.{ℕ}
 use mathlib.Core.Bool.{Bool, true, false, cond}
 use lib.Dec.{T, lit≤}
 use lib.IntN.{ℤ, _+ℤ_}
 use Rattle.complex.specs.declared.Complex.{Complex}
 use Rattle.complex.specs.Arithmetic.{𝟎, _⊗_, conj}
 use Rattle.complex.specs.Buffers.{value, listed}
-use Rattle.complex.specs.Fits.{Within, Both, Bound}
+use Rattle.complex.specs.Fits.{Both, Bound}
 use Rattle.complex.proofs.Ring.{⊗-swap}
 use Rattle.complex.proofs.Components.{both-conj, both-⊗}
 use Rattle.complex.proofs.Lists.{value-in-buffers}
@@ -24,13 +24,6 @@ use Rattle.sync_analyser.specs.Held.{correlated, part-sums, product, sha
 use Rattle.complex.proofs.Bounds.{bound-listed}
 use Rattle.sync_analyser.proofs.Bounds.{signed-sum-within}
 use Rattle.sync_analyser.proofs.Correlations.{one-minus-j-within, primary-is, secondary-is}
-
-pub share-within : {k : ℕ} {d : ℕ → Complex} {m : ModulatedCode} → ((i : ℕ) → Both k (d i)) → Known m → Within (k * 1 + k * 1) (share-of d m)
-unfolding share-of
-share-within {k} {d} {m} h g = both-⊗ (h (m .code)) (both-conj (g .small)) .re
-
-pub known-below : {m : ModulatedCode} → Known m → m .code < 16
-known-below {m} g = sync-code-below (m .code) (g .listed)
 
 -- ---- from the products that the code holds to the scores of the definition
 module _ (re im dre dim : List ℤ)
@@ -61,11 +54,11 @@ module _ (re im dre dim : List ℤ)
 
 -- ---- sizes of what the code holds
 pub parts-bound : {x : List ℤ} → Bound 100000 x → (row : ℕ) → Bound 1600000 (part-sums x row)
-parts-bound h row = bound-listed 1600000 16 _ (λ m. signed-sum-within h _ _ _)
+parts-bound h row = bound-listed 1600000 16 _ (λ m. signed-sum-within h _ _)
 
 pub correlated-within : {re im : List ℤ} → Bound 1600000 re → Bound 1600000 im → (signs : ℕ) → Both 51200000 (correlated re im signs)
 unfolding correlated
-correlated-within h g signs = one-minus-j-within (record { re = signed-sum-within h _ _ _; im = signed-sum-within g _ _ _ })
+correlated-within h g signs = one-minus-j-within (record { re = signed-sum-within h _ _; im = signed-sum-within g _ _ })
 
 pub P-within : (re im : List ℤ) → Bound 100000 re → Bound 100000 im → Both 51200000 (P (value re im))
 P-within re im h g = subst (Both 51200000) (primary-is re im) (correlated-within (parts-bound h _) (parts-bound g _) _)

@@ -1,33 +1,40 @@
 -- How the code computes what the other files define. Nothing here is document 01's: the contracts of the public calls do not name it.
 use mathlib.Core.Path.{_≡_}
 use mathlib.Core.Logic.{_≢_}
-use lib.IntN.{ℤ, pos, _+ℤ_, _*ℤ_}
-use Prim.Native.Nat.{ℕ, _+_, _*_, _<_}
+use lib.IntN.{ℤ, pos, negℤ, natAbs, _+ℤ_, _-ℤ_, _*ℤ_}
+use Prim.Native.Nat.{ℕ, _+_, _*_, _/_, _%_, _<_}
 use mathlib.Core.Bool.{true, false, _&&_, cond}
 use mathlib.Core.List.{List}
+use lib.Dec.{eqb}
 use lib.ListN.{getD}
 use lib.Signed.{leZ, ltZ}
 use Rattle.complex.specs.declared.Complex.{Complex}
 use Rattle.complex.specs.Arithmetic.{_+j_, 𝟎, _⊗_, conj, Σℤ<, squared-size}
 use Rattle.complex.specs.Buffers.{listed}
+use Rattle.complex.specs.Fits.{Within}
 use Rattle.codes.specs.Held.{packed, sign-bit}
 use Rattle.sync_codes.specs.declared.ModulatedCode.{ModulatedCode}
 use Rattle.sync_codes.specs.declared.Allocated.{Allocated}
-use Rattle.sync_codes.specs.SyncCodes.{a-signs, is-sync-code}
+use Rattle.sync_codes.specs.SyncCodes.{a, a-signs, is-sync-code}
 use Rattle.sync_codes.specs.Held.{secondary-row}
+use Rattle.analyser.specs.declared.largest.Largest.{Largest}
 use Rattle.sync_analyser.specs.declared.sync_reading.Leader.{Leader}
 
--- the sum of sixteen entries, `step` apart from `from` on, with the signs of a row
-unfoldable pub signed-sum : List ℤ → ℕ → ℕ → ℕ → ℤ
-signed-sum x from step row = Σℤ< 16 (λ i. sign-bit row i *ℤ getD x (from + i * step) (pos 0))
+-- the sum of sixteen entries from `from` on, with the signs of a row
+unfoldable pub signed-sum : List ℤ → ℕ → ℕ → ℤ
+signed-sum x from row = Σℤ< 16 (λ i. sign-bit row i *ℤ getD x (from + i) (pos 0))
+
+-- the sum of eight entries from `from` on, with the signs of a row from `at` on
+unfoldable pub half-sum : List ℤ → ℕ → ℕ → ℕ → ℤ
+half-sum x from row at = Σℤ< 8 (λ i. sign-bit row (at + i) *ℤ getD x (from + i) (pos 0))
 
 -- the sums of each 16 of 256 chips with the signs of a row
 abbrev pub part-sums : List ℤ → ℕ → List ℤ
-part-sums x row = listed 16 (λ m. signed-sum x (m * 16) 1 row)
+part-sums x row = listed 16 (λ m. signed-sum x (m * 16) row)
 
 -- from such sums of re and im, the correlation with a code whose parts have the signs of a row
 unfoldable pub correlated : List ℤ → List ℤ → ℕ → Complex
-correlated re im signs = (signed-sum re 0 1 signs +j signed-sum im 0 1 signs) ⊗ conj (pos 1 +j pos 1)
+correlated re im signs = (signed-sum re 0 signs +j signed-sum im 0 signs) ⊗ conj (pos 1 +j pos 1)
 
 -- the correlation with secondary code i times the conjugate of p, from the sums of the parts against b; 0 where no code has the number
 unfoldable pub product : List ℤ → List ℤ → Complex → ℕ → Complex
@@ -40,9 +47,34 @@ share-of d m = (d (m .code) ⊗ conj (m .unit)) .re
 abbrev pub shares-of : (ℕ → Complex) → Allocated → ℤ
 shares-of d s = share-of d (s .first) +ℤ share-of d (s .second) +ℤ share-of d (s .marker)
 
--- the leader once candidate n with score v is met
-abbrev pub met : Leader → ℕ → ℤ → Leader
-met b n v = cond (ltZ (b .score) v) (record { at = n; score = v; alone = true }) (record { at = b .at; score = b .score; alone = ltZ v (b .score) && b .alone })
+-- the leader of x and -x, numbers 0 and 1
+abbrev pub leader-of-signs : ℤ → Leader
+leader-of-signs x = cond (ltZ x (pos 0)) (record { at = 1; score = negℤ x; alone = true }) (record { at = 0; score = x; alone = ltZ (pos 0) x })
+
+-- the leader of all sums of one of b's scores and one of c's two: sum 2m + n is of scores m and n
+abbrev pub leader-with : Leader → Leader → Leader
+leader-with b c = record { at = 2 * b .at + c .at; score = b .score +ℤ c .score; alone = b .alone && c .alone }
+
+-- the leader once the candidates from n on are met, c theirs
+abbrev pub leader-or-later : Leader → ℕ → Leader → Leader
+leader-or-later b n c =
+    cond (ltZ (b .score) (c .score)) (record { at = n + c .at; score = c .score; alone = c .alone })
+    (record { at = b .at; score = b .score; alone = ltZ (c .score) (b .score) && b .alone })
+
+-- which candidate of its row has the signs k: 4 where the first of the pair is negative, 2 the second, 1 the marker
+unfoldable pub place-in-row : ℕ → ℕ → ℕ
+place-in-row case k = cond (eqb case 1) k ((k / 4 + k / 2) % 2 * 4 + k / 4 * 2 + k % 2)
+
+-- the leader of a row of the allocation table, from those of the signs of its pair and of its marker
+abbrev pub leader-of-row : ℕ → Leader → Leader → Leader → Leader
+leader-of-row case first second marker =
+    let b = leader-with (leader-with first second) marker in
+    record { at = place-in-row case (b .at); score = b .score; alone = b .alone }
+
+-- what a leader can be: one of n, its score at most k in size
+pub record Led (k n : ℕ) (b : Leader) : Type 0 where
+  pub below : b .at < n
+  pub size : Within k (b .score)
 
 -- of the scores s of n candidates, the leader has the largest, and is alone exactly where no other has it
 pub record Leads (s : ℕ → ℤ) (n : ℕ) (b : Leader) : Type 0 where
@@ -52,7 +84,41 @@ pub record Leads (s : ℕ → ℤ) (n : ℕ) (b : Leader) : Type 0 where
   pub others : b .alone ≡ true → (k : ℕ) → k < n → k ≢ b .at → ltZ (s k) (s (b .at)) ≡ true
   pub tied : b .alone ≡ false → (k : ℕ) × (k < n) × (k ≢ b .at) × (s k ≡ s (b .at))
 
--- from the sums of 16 chips against a, the squared size of the correlation with the primary code
-unfoldable pub size-at : List ℤ → List ℤ → ℕ → ℤ
-size-at re im start =
-    squared-size ((signed-sum re start 16 (packed a-signs) +j signed-sum im start 16 (packed a-signs)) ⊗ conj (pos 1 +j pos 1))
+-- ---- the correlation with the primary code by steps
+abbrev pub entries : List ℤ → ℕ → ℤ
+entries l k = getD l k (pos 0)
+
+abbrev pub four-of : (ℕ → ℤ) → ℕ → ℕ → ℕ → ℕ → ℤ
+four-of x a b c p = x p +ℤ x (p + a) +ℤ (x (p + b) -ℤ x (p + c))
+
+-- the correlation of one component with the signs of the primary code from p on
+unfoldable pub primary-sum : List ℤ → ℕ → ℤ
+primary-sum x p = Σℤ< 16 (λ m. sign-bit (packed a-signs) m *ℤ signed-sum x (p + m * 16) (packed a))
+
+-- from those of re and im, the squared size of the correlation
+unfoldable pub size-of : ℤ → ℤ → ℤ
+size-of x y = squared-size ((x +j y) ⊗ conj (pos 1 +j pos 1))
+
+abbrev pub sizes : List ℤ → List ℤ → ℕ → ℤ
+sizes re im k = size-of (entries re k) (entries im k)
+
+-- ---- the largest size by blocks
+-- -|x|, and the smaller of low and that
+abbrev pub lowered-of : ℤ → ℤ
+lowered-of x = cond (ltZ (pos 0) x) (negℤ x) x
+
+abbrev pub lower-of : ℤ → ℤ → ℤ
+lower-of low x = cond (ltZ (lowered-of x) low) (lowered-of x) low
+
+-- low is not positive, and as large as each of n entries
+pub record Covers (x : List ℤ) (from n : ℕ) (low : ℤ) : Type 0 where
+  pub sign : leZ low (pos 0) ≡ true
+  pub size : Within 25600000 low
+  pub each : (i : ℕ) → i < n → Within (natAbs low) (entries x (from + i))
+
+-- of `count` values s, the first n passed: the largest of them, the earliest where several are; before any, value 0
+pub record PeaksBelow (s : ℕ → ℤ) (count n : ℕ) (b : Largest) : Type 0 where
+  pub below : b .at < count
+  pub own : b .value ≡ s (b .at)
+  pub largest : (k : ℕ) → k < n → leZ (s k) (s (b .at)) ≡ true
+  pub earliest : (k : ℕ) → k < b .at → ltZ (s k) (s (b .at)) ≡ true

@@ -3,25 +3,22 @@ ghost use mathlib.Core.Path.{_≡_};
 ghost use mathlib.Core.Bool.{_||_};
 ghost use Prim.Native.Nat.{_+_, _<_, _≤_};
 ghost use lib.Dec.{ltb};
-ghost use lib.ListN.{length};
+ghost use lib.IntN.{_+ℤ_, _-ℤ_};
+ghost use lib.ListN.{length, take};
 ghost use Rattle.complex.specs.Arithmetic.{squared-size};
 ghost use Rattle.complex.specs.Buffers.{listed, value, written};
-ghost use Rattle.complex.specs.Fits.{Both, Bound};
+ghost use Rattle.complex.specs.Fits.{Within, Both, Bound};
 ghost use Rattle.codes.specs.Refusals.{number};
-ghost use Rattle.codes.specs.Held.{packed};
-ghost use Rattle.sync_codes.specs.SyncCodes.{a};
 ghost use Rattle.analyser.specs.Held.{Peaks};
-ghost use Rattle.sync_analyser.specs.Finding.{find-refusals, longest-recording, peak as peak-of, scratch-length, shortest-recording};
-ghost use Rattle.sync_analyser.specs.Held.{signed-sum, size-at as size-of};
+ghost use Rattle.sync_analyser.specs.Finding.{find-refusals, longest-recording, peak as peak-of, scratch-length, shortest-recording, starts};
+ghost use Rattle.sync_analyser.specs.Held.{Covers, entries, four-of, lower-of, lowered-of, PeaksBelow, primary-sum, size-of, sizes};
 use crate::Peak;
-use crate::sums::signed_sum;
 use crate::sums::sum_of_products;
 use crate::sums::times_one_minus_j;
 use analyser::components;
 use analyser::largest::Largest;
 use analyser::wide::wide;
 use complex::Complex;
-use sync_codes::sync;
 
 // Whether no recording has n chips: a recording has 256 to 5120.
 fn is_no_recording(n: usize) -> bool
@@ -49,16 +46,64 @@ pub fn refusal(re: &[i32], im: &[i32], m: usize, n: usize) -> u32
     0
 }
 
-// The sums of 16 chips against the sequence a, one for each place where 16 chips start.
-fn sums(x: &[i32], y: &mut [i32])
-    requires { ⌜ (16 ≤ length (now x)) × (length (now x) ≤ 5120) × (scratch-length (length (now x)) ≤ length (now y)) × Bound 100000 (now x) ⌝ }
-    ensures { λ r. ⌜ now (y .exit) ≡ written (listed (scratch-length (length (now (x .entry)))) (λ p. signed-sum (now (x .entry)) p 1 (packed a))) (now (y .entry)) ⌝ }
+// p + q + (r - s): every step of the correlation with the primary code.
+fn four(p: i32, q: i32, r: i32, s: i32) -> i32
+    requires { ⌜ Within 6400000 p × Within 6400000 q × Within 6400000 r × Within 6400000 s ⌝ }
+    ensures { λ z. ⌜ z ≡ p +ℤ q +ℤ (r -ℤ s) ⌝ }
 {
-    let row = sync::a_row();
-    for p in 0..x.len() - 15 {
-        let s = signed_sum(x, p, 1, row);
-        y[p] = s;
+    p + q + (r - s)
+}
+
+// y(i) = x(i) + x(i + a) + x(i + b) - x(i + c) for i below `count`.
+fn sums(x: &[i32], a: usize, b: usize, c: usize, y: &mut [i32], count: usize)
+    requires { ⌜ (count + c ≤ length (now x)) × (a ≤ c) × (b ≤ c) × (length (now x) ≤ 5120) × (count ≤ length (now y)) × Bound 400000 (now x) ⌝ }
+    ensures { λ r. ⌜ now (y .exit) ≡ written (listed count (four-of (entries (now (x .entry))) a b c)) (now (y .entry)) ⌝ }
+{
+    for i in 0..count {
+        let s = four(x[i], x[i + a], x[i + b], x[i + c]);
+        y[i] = s;
     }
+}
+
+// For i below `count`, y(i) becomes y(i) + y(i + 32) + y(i + 16) - y(i + 48), and t(i) the same with the last two signs changed.
+fn pairs(y: &mut [i32], t: &mut [i32], count: usize)
+    requires { ⌜ (count + 48 ≤ length (now y)) × (count ≤ 5120) × (count ≤ length (now t)) × Bound 1600000 (take (count + 48) (now y)) ⌝ }
+    ensures { λ r. ⌜ (now (y .exit) ≡ written (listed count (four-of (entries (now (y .entry))) 32 16 48)) (now (y .entry))) × (now (t .exit) ≡ written (listed count (four-of (entries (now (y .entry))) 32 48 16)) (now (t .entry))) ⌝ }
+{
+    for i in 0..count {
+        let p = y[i];
+        let q = y[i + 32];
+        let r = y[i + 16];
+        let s = y[i + 48];
+        let u = four(p, q, r, s);
+        let v = four(p, q, s, r);
+        y[i] = u;
+        t[i] = v;
+    }
+}
+
+// For i below `count`, y(i) becomes y(i) + y(i + 128) + t(i + 192) - t(i + 64).
+fn whole(y: &mut [i32], t: &[i32], count: usize)
+    requires { ⌜ (count + 192 ≤ length (now y)) × (count ≤ 5120) × (count + 192 ≤ length (now t)) × Bound 6400000 (take (count + 192) (now y)) × Bound 6400000 (take (count + 192) (now t)) ⌝ }
+    ensures { λ r. ⌜ now (y .exit) ≡ written (listed count (λ p. entries (now (y .entry)) p +ℤ entries (now (y .entry)) (p + 128) +ℤ (entries (now (t .entry)) (p + 192) -ℤ entries (now (t .entry)) (p + 64)))) (now (y .entry)) ⌝ }
+{
+    for i in 0..count {
+        let s = four(y[i], y[i + 128], t[i + 192], t[i + 64]);
+        y[i] = s;
+    }
+}
+
+// The correlations of a component with the signs of the primary code from every start on. The code is a Golay sequence, so four steps
+// with 13 additions a chip make what its definition makes with 255; t is scratch.
+fn correlate(x: &[i32], y: &mut [i32], t: &mut [i32])
+    requires { ⌜ (256 ≤ length (now x)) × (length (now x) ≤ 5120) × (scratch-length (length (now x)) ≤ length (now y)) × (length (now x) ≤ length (now t)) × Bound 100000 (now x) ⌝ }
+    ensures { λ r. ⌜ (take (starts (length (now (x .entry)))) (now (y .exit)) ≡ listed (starts (length (now (x .entry)))) (primary-sum (now (x .entry)))) × (length (now (y .exit)) ≡ length (now (y .entry))) × (length (now (t .exit)) ≡ length (now (t .entry))) ⌝ }
+{
+    let n = x.len();
+    sums(x, 1, 8, 9, &mut *t, n - 9);
+    sums(&t[..n - 9], 2, 4, 6, &mut *y, n - 15);
+    pairs(&mut *y, &mut *t, n - 63);
+    whole(&mut *y, &*t, n - 255);
 }
 
 // The squared size of z.
@@ -71,46 +116,96 @@ fn squared(z: Complex) -> i64
     sum_of_products(a, a, b, b)
 }
 
-// The squared size of the correlation with the primary code over the 256 chips from `start` on: 16 of the sums, 16 apart.
-fn size(re: &[i32], im: &[i32], start: usize) -> i64
-    requires { ⌜ (start + 240 < length (now re)) × (start + 240 < length (now im)) × (length (now re) ≤ 5120) × (length (now im) ≤ 5120) × Bound 1600000 (now re) × Bound 1600000 (now im) ⌝ }
-    ensures { λ r. ⌜ r ≡ size-of (now (re .entry)) (now (im .entry)) start ⌝ }
+// The squared size of the correlation with the primary code, from those of re and im with its signs.
+fn size(re: i32, im: i32) -> i64
+    requires { ⌜ Within 25600000 re × Within 25600000 im ⌝ }
+    ensures { λ r. ⌜ r ≡ size-of re im ⌝ }
 {
-    let signs = sync::a_repeat_row();
-    squared(times_one_minus_j(Complex {
-        re: signed_sum(re, start, 16, signs),
-        im: signed_sum(im, start, 16, signs),
-    }))
+    squared(times_one_minus_j(Complex { re: re, im: im }))
 }
 
-// The largest of the first `count` sizes, the earliest of equal ones.
-fn strongest(re: &[i32], im: &[i32], count: usize) -> Largest
-    requires { ⌜ (0 < count) × (count + 240 ≤ length (now re)) × (count + 240 ≤ length (now im)) × (length (now re) ≤ 5120) × (length (now im) ≤ 5120) × Bound 1600000 (now re) × Bound 1600000 (now im) ⌝ }
-    ensures { λ r. ⌜ Peaks (size-of (now (re .entry)) (now (im .entry))) count r ⌝ }
+// -|x|.
+fn lowered(x: i32) -> i32
+    requires { ⌜ Within 25600000 x ⌝ }
+    ensures { λ r. ⌜ r ≡ lowered-of x ⌝ }
 {
-    let mut best = Largest {
-        at: 0,
-        value: size(re, im, 0),
-    };
-    for start in 1..count {
+    if 0 < x { -x } else { x }
+}
+
+// The smaller of low and -|x|.
+fn lower(low: i32, x: i32) -> i32
+    requires { ⌜ Within 25600000 x ⌝ }
+    ensures { λ r. ⌜ r ≡ lower-of low x ⌝ }
+{
+    let y = lowered(x);
+    if y < low { y } else { low }
+}
+
+// How large the entries of a block of 32 are, as a number that is not positive: vector code compares signed numbers.
+fn lowest(x: &[i32], from: usize) -> i32
+    requires { ⌜ (from + 32 ≤ length (now x)) × (length (now x) ≤ 5120) × Bound 25600000 (now x) ⌝ }
+    ensures { λ r. ⌜ Covers (now (x .entry)) from 32 r ⌝ }
+{
+    let mut low: i32 = 0;
+    for i in 0..32 {
+        low = lower(low, x[from + i]);
+    }
+    low
+}
+
+// The largest size, once the starts from `from` to `end` are looked at.
+fn look(best: Largest, re: &[i32], im: &[i32], from: usize, end: usize) -> Largest
+    requires { ⌜ (from ≤ end) × (end ≤ length (now re)) × (length (now re) ≡ length (now im)) × (length (now re) ≤ 5120) × Bound 25600000 (now re) × Bound 25600000 (now im) × PeaksBelow (sizes (now re) (now im)) (length (now re)) from best ⌝ }
+    ensures { λ r. ⌜ PeaksBelow (sizes (now (re .entry)) (now (im .entry))) (length (now (re .entry))) end r ⌝ }
+{
+    let mut found = best;
+    for i in from..end {
         let next = Largest {
-            at: start,
-            value: size(re, im, start),
+            at: i,
+            value: size(re[i], im[i]),
         };
-        best = best.or_later(next);
+        found = found.or_later(next);
+    }
+    found
+}
+
+// The same for the 32 starts from `from` on. They are not looked at where the largest parts of them all could not make a larger size.
+fn block(best: Largest, re: &[i32], im: &[i32], from: usize) -> Largest
+    requires { ⌜ (from + 32 ≤ length (now re)) × (length (now re) ≡ length (now im)) × (length (now re) ≤ 5120) × Bound 25600000 (now re) × Bound 25600000 (now im) × PeaksBelow (sizes (now re) (now im)) (length (now re)) from best ⌝ }
+    ensures { λ r. ⌜ PeaksBelow (sizes (now (re .entry)) (now (im .entry))) (length (now (re .entry))) (from + 32) r ⌝ }
+{
+    let bound = size(lowest(re, from), lowest(im, from));
+    if best.value < bound {
+        return look(best, re, im, from, from + 32);
     }
     best
 }
 
-// The peak of a recording. Each 16 chips are summed once, and sixteen of those sums make a correlation.
+// The largest size of all starts, the earliest of equal ones.
+fn strongest(re: &[i32], im: &[i32]) -> Largest
+    requires { ⌜ (0 < length (now re)) × (length (now re) ≡ length (now im)) × (length (now re) ≤ 5120) × Bound 25600000 (now re) × Bound 25600000 (now im) ⌝ }
+    ensures { λ r. ⌜ Peaks (sizes (now (re .entry)) (now (im .entry))) (length (now (re .entry))) r ⌝ }
+{
+    let mut best = Largest {
+        at: 0,
+        value: size(re[0], im[0]),
+    };
+    for k in 0..re.len() / 32 {
+        best = block(best, re, im, k * 32);
+    }
+    look(best, re, im, re.len() / 32 * 32, re.len())
+}
+
+// The peak of a recording.
 pub fn peak(re: &[i32], im: &[i32], sumre: &mut [i32], sumim: &mut [i32]) -> Peak
     requires { ⌜ (256 ≤ length (now re)) × (length (now re) ≤ 5120) × (length (now re) ≡ length (now im)) × (scratch-length (length (now re)) ≤ length (now sumre)) × (scratch-length (length (now re)) ≤ length (now sumim)) × Bound 100000 (now re) × Bound 100000 (now im) ⌝ }
     ensures { λ r. ⌜ r ≡ peak-of (value (now (re .entry)) (now (im .entry))) (length (now (re .entry))) ⌝ }
 {
     let n = re.len();
-    sums(re, &mut *sumre);
-    sums(im, &mut *sumim);
-    let best = strongest(&sumre[..n - 15], &sumim[..n - 15], n - 255);
+    let mut t = [0i32; 5120];
+    correlate(re, &mut *sumre, &mut t);
+    correlate(im, &mut *sumim, &mut t);
+    let best = strongest(&sumre[..n - 255], &sumim[..n - 255]);
     Peak {
         start: best.at,
         size: best.value,

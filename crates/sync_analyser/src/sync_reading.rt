@@ -1,16 +1,24 @@
 // Reading a sync burst: correlations with the codes, and the candidate that beats every other.
 ghost use mathlib.Core.Path.{_≡_};
-ghost use Prim.Native.Nat.{_<_};
-ghost use lib.ListN.{length, take};
+ghost use mathlib.Core.Bool.{true};
+ghost use Prim.Native.Nat.{_+_, _*_, _<_};
+ghost use lib.IntN.{pos, _+ℤ_};
+ghost use lib.ListN.{getD, length, take};
+ghost use mir.Syntax.{w64};
+ghost use mir.Val.{SFits};
 ghost use Rattle.complex.specs.Arithmetic.{_+j_, _⊗_, conj};
 ghost use Rattle.complex.specs.Buffers.{listed, value};
-ghost use Rattle.complex.specs.Fits.{Both, Bound};
+ghost use Rattle.complex.specs.Fits.{Within, Both, Bound};
 ghost use Rattle.codes.specs.Refusals.{number};
 ghost use Rattle.codes.specs.Held.{packed};
-ghost use Rattle.sync_codes.specs.SyncCodes.{b};
-ghost use Rattle.sync_analyser.specs.SyncReading.{candidate as candidate-of, candidates, P, score as score-of, sent, sync-refusals};
-ghost use Rattle.sync_analyser.specs.Held.{correlated, Leads, met as met-by, part-sums, product as product-of, share-of, shares-of};
+ghost use Rattle.sync_codes.specs.SyncCodes.{a, b};
+ghost use Rattle.sync_codes.specs.Allocation.{one-or-two};
+ghost use Rattle.sync_analyser.specs.SyncReading.{candidate as candidate-of, candidates, score as score-of, sent, sync-refusals};
+ghost use Rattle.sync_analyser.specs.Held.{correlated, leader-of-row, leader-of-signs, leader-or-later, leader-with, Leads, Led, part-sums, place-in-row, product as product-of, shares-of};
 use crate::Candidate;
+use crate::sums::half_sum;
+use crate::sums::less;
+use crate::sums::plus;
 use crate::sums::signed_sum;
 use crate::sums::sum_of_products;
 use crate::sums::times_one_minus_j;
@@ -19,7 +27,6 @@ use analyser::wide::minus;
 use analyser::wide::wide;
 use codes::CodeGroup;
 use complex::Complex;
-use sync_codes::ModulatedCode;
 use sync_codes::burst;
 use sync_codes::sync;
 
@@ -42,17 +49,29 @@ pub fn refusal(case: u32, re: &[i32], im: &[i32]) -> u32
     0
 }
 
-// The sums of each 16 chips with the signs of a row.
-fn parts(x: &[i32], row: u32) -> [i32; 16]
+// The sums of each 16 chips with the signs of the sequences a and b.
+pub struct PartSums {
+    pub a: [i32; 16],
+    pub b: [i32; 16],
+}
+
+// b is a with its last eight elements negated, so two sums of eight chips serve both: their sum and their difference.
+fn parts(x: &[i32]) -> PartSums
     requires { ⌜ (length (now x) ≡ 256) × Bound 100000 (now x) ⌝ }
-    ensures { λ r. ⌜ r ≡ part-sums (now (x .entry)) row ⌝ }
+    ensures { λ r. ⌜ (r .a ≡ part-sums (now (x .entry)) (packed a)) × (r .b ≡ part-sums (now (x .entry)) (packed b)) ⌝ }
 {
+    let row = sync::a_row();
     let mut y = [0i32; 16];
+    let mut z = [0i32; 16];
     for m in 0..16 {
-        let s = signed_sum(x, m * 16, 1, row);
+        let first = half_sum(x, m * 16, row, 0);
+        let last = half_sum(x, m * 16 + 8, row, 8);
+        let s = plus(first, last);
+        let d = less(first, last);
         y[m] = s;
+        z[m] = d;
     }
-    y
+    PartSums { a: y, b: z }
 }
 
 // The correlation with a code whose parts have the signs of a row, from the sums of the parts.
@@ -61,19 +80,9 @@ fn correlation(re: &[i32; 16], im: &[i32; 16], signs: u32) -> Complex
     ensures { λ r. ⌜ r ≡ correlated (now (re .entry)) (now (im .entry)) signs ⌝ }
 {
     times_one_minus_j(Complex {
-        re: signed_sum(re, 0, 1, signs),
-        im: signed_sum(im, 0, 1, signs),
+        re: signed_sum(re, signs),
+        im: signed_sum(im, signs),
     })
-}
-
-// The correlation with the primary code.
-fn primary(re: &[i32], im: &[i32]) -> Complex
-    requires { ⌜ (length (now re) ≡ 256) × (length (now im) ≡ 256) × Bound 100000 (now re) × Bound 100000 (now im) ⌝ }
-    ensures { λ r. ⌜ r ≡ P (value (now (re .entry)) (now (im .entry))) ⌝ }
-{
-    let a = parts(re, sync::a_row());
-    let b = parts(im, sync::a_row());
-    correlation(&a, &b, sync::a_repeat_row())
 }
 
 // A complex value at 64 bits.
@@ -113,39 +122,21 @@ pub struct SecondaryProducts {
     pub im: [i64; 16],
 }
 
-// The correlations with the secondary codes, each times the conjugate of p.
-fn products(re: &[i32], im: &[i32], p: Complex) -> SecondaryProducts
-    requires { ⌜ (length (now re) ≡ 256) × (length (now im) ≡ 256) × Bound 100000 (now re) × Bound 100000 (now im) × Both 51200000 p ⌝ }
-    ensures { λ r. ⌜ (r .re ≡ listed 16 (λ i. product-of (part-sums (now (re .entry)) (packed b)) (part-sums (now (im .entry)) (packed b)) p i .re)) × (r .im ≡ listed 16 (λ i. product-of (part-sums (now (re .entry)) (packed b)) (part-sums (now (im .entry)) (packed b)) p i .im)) ⌝ }
+// The correlations with the secondary codes, each times the conjugate of p, from the sums of the parts.
+fn products(re: &[i32; 16], im: &[i32; 16], p: Complex) -> SecondaryProducts
+    requires { ⌜ Bound 1600000 (now re) × Bound 1600000 (now im) × Both 51200000 p ⌝ }
+    ensures { λ r. ⌜ (r .re ≡ listed 16 (λ i. product-of (now (re .entry)) (now (im .entry)) p i .re)) × (r .im ≡ listed 16 (λ i. product-of (now (re .entry)) (now (im .entry)) p i .im)) ⌝ }
 {
-    let b = parts(re, sync::b_row());
-    let c = parts(im, sync::b_row());
     let mut x = [0i64; 16];
     let mut y = [0i64; 16];
     for i in 0..16 {
-        let d = product(&b, &c, p, i as u32);
+        let d = product(re, im, p, i as u32);
         let u = d.re;
         let v = d.im;
         x[i] = u;
         y[i] = v;
     }
     SecondaryProducts { re: x, im: y }
-}
-
-// How much a code with its unit u adds to a score: the real part of its product times the conjugate of u.
-fn share(re: &[i64; 16], im: &[i64; 16], m: ModulatedCode) -> i64
-    requires { ⌜ (m .code < 16) × Both 1 (m .unit) × Bound 5300000000000000 (now re) × Bound 5300000000000000 (now im) ⌝ }
-    ensures { λ r. ⌜ r ≡ share-of (value (now (re .entry)) (now (im .entry))) m ⌝ }
-{
-    let i = m.code as usize;
-    sum_of_products(re[i], wide(m.unit.re), im[i], wide(m.unit.im))
-}
-
-// How many candidates a case has.
-fn candidates(case: u32) -> u32
-    ensures { λ r. ⌜ r ≡ candidates case ⌝ }
-{
-    if case == 1 { 64 } else { 128 }
 }
 
 // Candidate n of a case: group by group, in a group frame by frame.
@@ -167,16 +158,6 @@ pub fn candidate(case: u32, n: u32) -> Candidate
     }
 }
 
-// The score of candidate n.
-fn score(re: &[i64; 16], im: &[i64; 16], case: u32, n: u32) -> i64
-    requires { ⌜ Bound 5300000000000000 (now re) × Bound 5300000000000000 (now im) ⌝ }
-    ensures { λ r. ⌜ r ≡ shares-of (value (now (re .entry)) (now (im .entry))) (sent case (candidate-of case n)) ⌝ }
-{
-    let c = candidate(case, n);
-    let codes = burst::allocated(case, c.group, c.frame, c.half);
-    share(re, im, codes.first) + share(re, im, codes.second) + share(re, im, codes.marker)
-}
-
 // The first candidate with the largest score so far, and whether no other has it too.
 pub struct Leader {
     pub at: u32,
@@ -184,49 +165,136 @@ pub struct Leader {
     pub alone: bool,
 }
 
+// The leader of x and -x, numbers 0 and 1.
+fn of_signs(x: i64) -> Leader
+    requires { ⌜ Within 5300000000000000 x ⌝ }
+    ensures { λ r. ⌜ r ≡ leader-of-signs x ⌝ }
+{
+    if x < 0 {
+        Leader {
+            at: 1,
+            score: -x,
+            alone: true,
+        }
+    } else {
+        Leader {
+            at: 0,
+            score: x,
+            alone: 0 < x,
+        }
+    }
+}
+
+// The leader of a product's component and its negative, numbers 0 and 1.
+fn sign_leader(x: &[i64; 16], code: u32) -> Leader
+    requires { ⌜ (code < 16) × Bound 5300000000000000 (now x) ⌝ }
+    ensures { λ r. ⌜ r ≡ leader-of-signs (getD (now (x .entry)) code (pos 0)) ⌝ }
+{
+    of_signs(x[code as usize])
+}
+
 impl Leader {
-    // The leader once candidate n with its score is met.
-    fn met(self, n: u32, score: i64) -> Leader
-        ensures { λ r. ⌜ r ≡ met-by self n score ⌝ }
+    // The leader of all sums of one of these scores and one of two others: sum 2m + n is of scores m and n.
+    fn with(self, other: Leader) -> Leader
+        requires { ⌜ (self .at < 4) × (other .at < 2) × SFits w64 (self .score +ℤ other .score) ⌝ }
+        ensures { λ r. ⌜ r ≡ leader-with self other ⌝ }
     {
-        if self.score < score {
+        Leader {
+            at: 2 * self.at + other.at,
+            score: self.score + other.score,
+            alone: self.alone && other.alone,
+        }
+    }
+
+    // The leader once the candidates from n on are met, `later` theirs.
+    fn or_later(self, n: u32, later: Leader) -> Leader
+        requires { ⌜ (n < 128) × (later .at < 32) ⌝ }
+        ensures { λ r. ⌜ r ≡ leader-or-later self n later ⌝ }
+    {
+        if self.score < later.score {
             return Leader {
-                at: n,
-                score: score,
-                alone: true,
+                at: n + later.at,
+                score: later.score,
+                alone: later.alone,
             };
         }
         Leader {
             at: self.at,
             score: self.score,
-            alone: score < self.score && self.alone,
+            alone: later.score < self.score && self.alone,
         }
     }
 }
 
-// The leader of all candidates.
+// Which candidate of its row has the signs k: 4 where the first of the pair is negative, 2 the second, 1 the marker.
+fn place_in_row(case: u32, k: u32) -> u32
+    requires { ⌜ k < 8 ⌝ }
+    ensures { λ r. ⌜ r ≡ place-in-row case k ⌝ }
+{
+    if case == 1 {
+        k
+    } else {
+        (k / 4 + k / 2) % 2 * 4 + k / 4 * 2 + k % 2
+    }
+}
+
+// The leader of a row of the allocation table. Its eight candidates send the same codes, each with its own three signs, so the best has
+// those of the three shares, and it is alone where no share is 0.
+fn row_leader(case: u32, first: Leader, second: Leader, marker: Leader) -> Leader
+    requires { ⌜ Led 5300000000000000 2 first × Led 5300000000000000 2 second × Led 5300000000000000 2 marker ⌝ }
+    ensures { λ r. ⌜ r ≡ leader-of-row case first second marker ⌝ }
+{
+    let best = first.with(second).with(marker);
+    Leader {
+        at: place_in_row(case, best.at),
+        score: best.score,
+        alone: best.alone,
+    }
+}
+
+// The leader of a code set (A, B, D), candidates 32n to 32n + 31: four rows share the signs of three products.
+fn set_leader(re: &[i64; 16], im: &[i64; 16], case: u32, n: u32) -> Leader
+    requires { ⌜ (case < 3) × (n < 2 * case) × Bound 5300000000000000 (now re) × Bound 5300000000000000 (now im) ⌝ }
+    ensures { λ l. ⌜ Leads (λ k. shares-of (value (now (re .entry)) (now (im .entry))) (sent case (candidate-of case (32 * n + k)))) 32 l ⌝ }
+{
+    let set = burst::code_set(1 + n);
+    let a = sign_leader(re, set.a);
+    let b = sign_leader(re, set.b);
+    let d = sign_leader(re, set.d);
+    let ja = sign_leader(im, set.a);
+    let jb = sign_leader(im, set.b);
+    let jd = sign_leader(im, set.d);
+    let two = row_leader(case, a, b, d).or_later(8, row_leader(case, ja, jb, d));
+    let three = two.or_later(16, row_leader(case, ja, jd, b));
+    three.or_later(24, row_leader(case, jb, jd, a))
+}
+
+// The leader of all candidates, set by set: two sets in case 1, four in case 2.
 fn lead_of_all(re: &[i64; 16], im: &[i64; 16], case: u32) -> Leader
-    requires { ⌜ Bound 5300000000000000 (now re) × Bound 5300000000000000 (now im) ⌝ }
+    requires { ⌜ (one-or-two case ≡ true) × Bound 5300000000000000 (now re) × Bound 5300000000000000 (now im) ⌝ }
     ensures { λ r. ⌜ Leads (λ n. shares-of (value (now (re .entry)) (now (im .entry))) (sent case (candidate-of case n))) (candidates case) r ⌝ }
 {
-    let mut leader = Leader {
-        at: 0,
-        score: score(re, im, case, 0),
-        alone: true,
-    };
-    for n in 1..candidates(case) {
-        leader = leader.met(n, score(re, im, case, n));
+    let mut leader = set_leader(re, im, case, 0);
+    for n in 1..2 * case {
+        leader = leader.or_later(32 * n, set_leader(re, im, case, n));
     }
     leader
 }
 
 // The leader for 256 chips: the sums of each 16 chips are made once, and serve every code.
 pub fn lead(case: u32, re: &[i32], im: &[i32]) -> Leader
-    requires { ⌜ (length (now re) ≡ 256) × (length (now im) ≡ 256) × Bound 100000 (now re) × Bound 100000 (now im) ⌝ }
+    requires { ⌜ (one-or-two case ≡ true) × (length (now re) ≡ 256) × (length (now im) ≡ 256) × Bound 100000 (now re) × Bound 100000 (now im) ⌝ }
     ensures { λ r. ⌜ Leads (score-of case (value (now (re .entry)) (now (im .entry)))) (candidates case) r ⌝ }
 {
-    let d = products(re, im, primary(re, im));
-    let x = d.re;
-    let y = d.im;
-    lead_of_all(&x, &y, case)
+    let x = parts(re);
+    let y = parts(im);
+    let xa = x.a;
+    let ya = y.a;
+    let p = correlation(&xa, &ya, sync::a_repeat_row());
+    let xb = x.b;
+    let yb = y.b;
+    let d = products(&xb, &yb, p);
+    let u = d.re;
+    let v = d.im;
+    lead_of_all(&u, &v, case)
 }

@@ -44,7 +44,7 @@ pub struct CodeSet {
 }
 
 // Code set n of the four.
-fn code_set(n: u32) -> CodeSet
+pub fn code_set(n: u32) -> CodeSet
     requires { ⌜ (0 < n) × (n < 5) ⌝ }
     ensures { λ r. ⌜ r ≡ code-set n ⌝ }
 {

@@ -11,6 +11,7 @@ use lib.ListN.{length, take}
 use Rattle.complex.specs.Buffers.{value}
 use Rattle.codes.specs.Refusals.{refused, gives, Refusal, _if_, number}
 use Rattle.codes.proofs.Refused.{numbered, Passed, passed, accepted, not-accepted, refused-early, passed-early}
+use Rattle.sync_codes.specs.Allocation.{one-or-two}
 use Rattle.analyser.specs.Components.{outside}
 use Rattle.analyser.proofs.Ranges.{not-outside}
 use Rattle.sync_analyser.specs.SyncReading.{candidate, candidates, sync-refusals, winner}
@@ -48,7 +49,8 @@ lead-requires c κs =
     let inside = neither (outside (s .re .now)) (outside (s .im .now)) (p .1 .1 .1 .0) in
     let lengths = eqb-true (length (s .re .now)) (length (s .im .now)) (not-false (eqb (length (s .re .now)) (length (s .im .now))) (p .1 .0)) in
     let whole = eqb-true (length (s .re .now)) 256 (not-false (eqb (length (s .re .now)) 256) (p .1 .1 .0)) in
-    (whole, sym lengths ∙ whole, not-outside (s .re .now) (inside .0), not-outside (s .im .now) (inside .1))
+    let case = not-false (one-or-two (s .case)) (p .0) in
+    (case, whole, sym lengths ∙ whole, not-outside (s .re .now) (inside .0), not-outside (s .im .now) (inside .1))
 
 candidate-requires : tie.Need-candidate-requires
 candidate-requires c κs = search needs

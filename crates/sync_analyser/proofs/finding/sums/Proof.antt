@@ -1,41 +1,74 @@
 -- `sums` meets its contract. The loop's invariant: the sums passed are in the buffer. Assumes nothing.
-use mathlib.Core.Path.{_≡_, refl, ap, _∙_}
-use Prim.Native.Nat.{_-_, _≤_}
+use mathlib.Core.Path.{_≡_, refl, _∙_}
+use Prim.Native.Nat.{ℕ, _+_, _-_, _≤_}
 use native.Mathlib.Omega.{arith}
 use borrow.Author.Needs.{needs}
+use lib.Dec.{lit≤}
+use lib.IntN.{_+ℤ_, _-ℤ_}
 use lib.ListN.{length, set, length-set}
 use mir.Syntax.{w32}
-use mir.Val.{SFits}
+use mir.Val.{SFits, toZ, ofZ}
 use mir.Facts.{toZ-ofZ}
 use Rattle.complex.specs.Buffers.{listed, written}
+use Rattle.complex.specs.Fits.{Within}
 use Rattle.complex.proofs.Lists.{one-more-written}
-use Rattle.codes.specs.Held.{packed}
-use Rattle.sync_codes.specs.SyncCodes.{a}
-use Rattle.complex.proofs.Bounds.{bound-more}
-use Rattle.sync_analyser.specs.Held.{signed-sum}
+use Rattle.complex.proofs.Sizes.{within-more}
+use Rattle.sync_analyser.specs.Held.{entries, four-of}
+use Rattle.sync_analyser.proofs.Golay.{read-is}
+use Rattle.sync_analyser.proofs.Products.{held}
 use Rattle.sync_analyser.proofs.finding.sums.Statement.{statement}
 use Rattle.sync_analyser.proofs.finding.sums.Tie as tie
 
 abbrev Inv-loop : tie.InvT-loop
-Inv-loop x y₀ row p₀ p-end y p = (p ≤ p-end) × (y ≡ written (listed p (λ k. signed-sum x k 1 (packed a))) y₀) × (length y ≡ length y₀)
+Inv-loop x a b c y₀ count i₀ y i = (i ≤ count) × (y ≡ written (listed i (four-of (entries x) a b c)) y₀) × (length y ≡ length y₀)
 
 abbrev μ-loop : tie.MeasureT-loop
-μ-loop x y₀ row p₀ p-end y p = p-end - p
-
-a-row-requires : tie.Need-a-row-requires Inv-loop μ-loop
-a-row-requires c κs = search needs
-
-sub-p-end : tie.Need-sub-p-end Inv-loop μ-loop
-sub-p-end c = omega arith
+μ-loop x a b c y₀ count i₀ y i = count - i
 
 loop-holds : tie.Need-loop-holds Inv-loop μ-loop
 unfolding listed
 loop-holds c = (omega arith, refl, refl)
 
-signed-sum-requires : tie.Need-signed-sum-requires Inv-loop μ-loop
-signed-sum-requires c κs =
-    let s = c .before .before .before in
-    (omega arith, omega arith, bound-more (s .pre .3) 1600000 (omega arith))
+mul-four : tie.Need-mul-four Inv-loop μ-loop
+mul-four c = omega arith
+
+shared-slice-copy-out-four : tie.Need-shared-slice-copy-out-four Inv-loop μ-loop
+shared-slice-copy-out-four c = omega arith
+
+add-four : tie.Need-add-four Inv-loop μ-loop
+add-four c = omega arith
+
+mul-four-2 : tie.Need-mul-four-2 Inv-loop μ-loop
+mul-four-2 c = omega arith
+
+shared-slice-copy-out-four-2 : tie.Need-shared-slice-copy-out-four-2 Inv-loop μ-loop
+shared-slice-copy-out-four-2 c = omega arith
+
+add-four-2 : tie.Need-add-four-2 Inv-loop μ-loop
+add-four-2 c = omega arith
+
+mul-four-3 : tie.Need-mul-four-3 Inv-loop μ-loop
+mul-four-3 c = omega arith
+
+shared-slice-copy-out-four-3 : tie.Need-shared-slice-copy-out-four-3 Inv-loop μ-loop
+shared-slice-copy-out-four-3 c = omega arith
+
+add-four-3 : tie.Need-add-four-3 Inv-loop μ-loop
+add-four-3 c = omega arith
+
+mul-four-4 : tie.Need-mul-four-4 Inv-loop μ-loop
+mul-four-4 c = omega arith
+
+shared-slice-copy-out-four-4 : tie.Need-shared-slice-copy-out-four-4 Inv-loop μ-loop
+shared-slice-copy-out-four-4 c = omega arith
+
+entry-within : (c : tie.Start Inv-loop μ-loop) (k : ℕ) → Within 6400000 (entries (c .args .x .now) k)
+entry-within c k = within-more (c .pre .5 .at k) 6400000 (lit≤ tt)
+
+four-requires : tie.Need-four-requires Inv-loop μ-loop
+four-requires c κs =
+    let h = entry-within (c .before .before .before .before .before .before) in
+    (held (read-is (h _)) (h _), held (read-is (h _)) (h _), held (read-is (h _)) (h _), held (read-is (h _)) (h _))
 
 mul-s : tie.Need-mul-s Inv-loop μ-loop
 mul-s c = omega arith
@@ -43,20 +76,21 @@ mul-s c = omega arith
 slice-set-from-s : tie.Need-slice-set-from-s Inv-loop μ-loop
 slice-set-from-s c = omega arith
 
-add-p : tie.Need-add-p Inv-loop μ-loop
-add-p c = omega arith
+add-i : tie.Need-add-i Inv-loop μ-loop
+add-i c = omega arith
 
 loop-less : tie.Need-loop-less Inv-loop μ-loop
 loop-less c = omega arith
 
 loop-again : tie.Need-loop-again Inv-loop μ-loop
 loop-again c =
-    let l = c .before .before .loop in
-    let s = c .before .before .before .before in
-    let f : SFits w32 (c .signed-sum .result) = search needs in (
+    let l = c .before .before .before .before .before .before .loop in
+    let s = c .before .before .before .before .before .before .before in
+    let a = s .args in
+    let e : (k : ℕ) → toZ w32 (ofZ w32 (entries (a .x .now) k)) ≡ entries (a .x .now) k = λ k. read-is (entry-within s k) in
+    let f : SFits w32 (c .four .result) = search needs in (
       omega arith,
-      (λ j. set (l .inv .1 j) (l .p) ((toZ-ofZ f ∙ c .signed-sum .ensures ∙ ap (signed-sum (s .args .x .now) (l .p) 1) (c .before .before .before .a-row .ensures)) j))
-          ∙ one-more-written _ _ (l .p) (omega arith),
+      (λ j. set (l .inv .1 j) (l .i) ((toZ-ofZ f ∙ c .four .ensures ∙ (λ t. e (l .i) t +ℤ e (l .i + a .a) t +ℤ (e (l .i + a .b) t -ℤ e (l .i + a .c) t))) j)) ∙ one-more-written (four-of (entries (a .x .now)) (a .a) (a .b) (a .c)) _ (l .i) (omega arith),
       simp length-set (l .inv .2),
     )
 
@@ -65,7 +99,7 @@ same-length c = c .before .loop .inv .2
 
 returns : tie.Need-returns Inv-loop μ-loop
 returns c =
-    let e : c .before .loop .p ≡ length (c .before .before .before .args .x .now) - 15 = omega arith in
+    let e : c .before .loop .i ≡ c .before .before .args .count = omega arith in
     rw e at (c .before .loop .inv .1)
 
 pub sums-spec : {M : Type 1} → statement M
@@ -74,13 +108,22 @@ sums-spec =
     (tie.spec
     Inv-loop
     μ-loop
-    a-row-requires
-    sub-p-end
     loop-holds
-    signed-sum-requires
+    mul-four
+    shared-slice-copy-out-four
+    add-four
+    mul-four-2
+    shared-slice-copy-out-four-2
+    add-four-2
+    mul-four-3
+    shared-slice-copy-out-four-3
+    add-four-3
+    mul-four-4
+    shared-slice-copy-out-four-4
+    four-requires
     mul-s
     slice-set-from-s
-    add-p
+    add-i
     loop-less
     loop-again
     same-length

@@ -1,8 +1,8 @@
 -- `signed_sum` meets its contract. The loop's invariant: `s` is the sum of the terms passed. Assumes nothing.
-use mathlib.Core.Path.{_≡_, refl, sym, _∙_, subst}
-use Prim.Native.Nat.{ℕ, _+_, _*_, _-_, _≤_, _<_}
+use mathlib.Core.Path.{_≡_, refl, sym, ap, _∙_, subst}
+use Prim.Native.Nat.{ℕ, _+_, _*_, _-_, _≤_}
 use native.Mathlib.Omega.{arith}
-use native.Mathlib.Nat.{mul-le-mul-right}
+use native.Mathlib.Nat.{zero-add}
 use borrow.Author.Needs.{needs}
 use lib.IntN.{ℤ, pos, _+ℤ_, _*ℤ_}
 use lib.ListN.{getD}
@@ -21,10 +21,10 @@ use Rattle.sync_analyser.proofs.sums.signed_sum.Statement.{statement}
 use Rattle.sync_analyser.proofs.sums.signed_sum.Tie as tie
 
 abbrev Inv-loop : tie.InvT-loop
-Inv-loop x from step row s₀ i₀ s i = (i ≤ 16) × (toZ w32 s ≡ Σℤ< i (λ k. sign-bit row k *ℤ getD x (from + k * step) (pos 0)))
+Inv-loop x row s₀ i₀ s i = (i ≤ 16) × (toZ w32 s ≡ Σℤ< i (λ k. sign-bit row k *ℤ getD x (0 + k) (pos 0)))
 
 abbrev μ-loop : tie.MeasureT-loop
-μ-loop x from step row s₀ i₀ s i = 16 - i
+μ-loop x row s₀ i₀ s i = 16 - i
 
 loop-holds : tie.Need-loop-holds Inv-loop μ-loop
 unfolding Σℤ<
@@ -36,36 +36,18 @@ cast-sign-at c = search needs
 sign-at-requires : tie.Need-sign-at-requires Inv-loop μ-loop
 sign-at-requires c κs = search needs
 
--- the place of the next entry
-inside : (i from step n : ℕ) → i < 16 → from + 15 * step < n → from + i * step < n
-inside i from step n h g = let m : i * step ≤ 15 * step = mul-le-mul-right step (omega arith) in omega (arith, m)
-
 mul-plus-signed : tie.Need-mul-plus-signed Inv-loop μ-loop
-mul-plus-signed c =
-    let s = c .before .before .before in
-    omega (arith, inside (c .before .before .loop .i) (s .args .from) (s .args .step) _ (omega arith) (s .pre .0))
+mul-plus-signed c = omega arith
 
-add-plus-signed : tie.Need-add-plus-signed Inv-loop μ-loop
-add-plus-signed c =
-    let s = c .before .before .before in
-    omega (arith, inside (c .before .before .loop .i) (s .args .from) (s .args .step) _ (omega arith) (s .pre .0))
-
-mul-plus-signed-2 : tie.Need-mul-plus-signed-2 Inv-loop μ-loop
-mul-plus-signed-2 c =
-    let s = c .before .before .before in
-    omega (arith, inside (c .before .before .loop .i) (s .args .from) (s .args .step) _ (omega arith) (s .pre .0))
-
-shared-slice-copy-out-plus-signed : tie.Need-shared-slice-copy-out-plus-signed Inv-loop μ-loop
-shared-slice-copy-out-plus-signed c =
-    let s = c .before .before .before in
-    inside (c .before .before .loop .i) (s .args .from) (s .args .step) _ (omega arith) (s .pre .0)
+element-copy-out-plus-signed : tie.Need-element-copy-out-plus-signed Inv-loop μ-loop
+element-copy-out-plus-signed c = omega arith
 
 -- a term's factors, as the locals hold them
 sign-is : (c : tie.After-sign-at Inv-loop μ-loop) → toZ w32 (ofZ w32 (c .sign-at .result)) ≡ sign-bit (c .before .before .before .args .row) (c .before .before .loop .i)
 sign-is c = let f : SFits w32 (c .sign-at .result) = search needs in toZ-ofZ f ∙ c .sign-at .ensures
 
 abbrev entry : (c : tie.After-plus-signed-arg Inv-loop μ-loop) → ℤ
-entry c = let s = c .before .before .before .before in getD (s .args .x .now) (s .args .from + c .before .before .before .loop .i * s .args .step) (pos 0)
+entry c = let s = c .before .before .before .before in getD (s .args .x .now) (c .before .before .before .loop .i) (pos 0)
 
 entry-is : (c : tie.After-plus-signed-arg Inv-loop μ-loop) → toZ w32 (ofZ w32 (entry c)) ≡ entry c
 entry-is c = toZ-ofZ {w = w32} {z = entry c} (record { sfits = c .plus-signed-arg .given })
@@ -74,10 +56,10 @@ plus-signed-requires : tie.Need-plus-signed-requires Inv-loop μ-loop
 plus-signed-requires c κs =
     let s = c .before .before .before .before in
     let l = c .before .before .before .loop in
-    let terms : Within (l .i * 1600000) (toZ w32 (l .s)) = subst (Within (l .i * 1600000)) (sym (l .inv .1)) (within-Σℤ 1600000 (l .i) _ (λ k g. within-mul (sign-within _ _) (s .pre .2 .at _))) in (
+    let terms : Within (l .i * 1600000) (toZ w32 (l .s)) = subst (Within (l .i * 1600000)) (sym (l .inv .1)) (within-Σℤ 1600000 (l .i) _ (λ k g. within-mul (sign-within _ _) (s .pre .at _))) in (
       within-more terms 24000000 (omega arith),
       subst (Within 1) (sym (sign-is (c .before))) (sign-within _ _),
-      subst (Within 1600000) (sym (entry-is c)) (s .pre .2 .at _),
+      subst (Within 1600000) (sym (entry-is c)) (s .pre .at _),
     )
 
 add-i : tie.Need-add-i Inv-loop μ-loop
@@ -89,10 +71,11 @@ loop-less c = omega arith
 loop-again : tie.Need-loop-again Inv-loop μ-loop
 loop-again c =
     let l = c .before .before .before .before .loop in
+    let s = c .before .before .before .before .before in
     let f : SFits w32 (c .plus-signed .result) = search needs in (
       omega arith,
       toZ-ofZ f ∙ c .plus-signed .ensures
-          ∙ (λ j. l .inv .1 j +ℤ sign-is (c .before .before) j *ℤ entry-is (c .before) j)
+          ∙ (λ j. l .inv .1 j +ℤ sign-is (c .before .before) j *ℤ (entry-is (c .before) ∙ ap (λ (k : ℕ). getD (s .args .x .now) k (pos 0)) (sym (zero-add (l .i)))) j)
           ∙ sym (Σℤ-more (l .i) _),
     )
 
@@ -112,9 +95,7 @@ signed-sum-spec =
     cast-sign-at
     sign-at-requires
     mul-plus-signed
-    add-plus-signed
-    mul-plus-signed-2
-    shared-slice-copy-out-plus-signed
+    element-copy-out-plus-signed
     plus-signed-requires
     add-i
     loop-less

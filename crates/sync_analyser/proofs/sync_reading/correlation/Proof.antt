@@ -21,18 +21,18 @@ signed-sum-requires-2 c κs = search needs
 -- the sums, as the struct holds them
 module _ (c : tie.After-signed-sum2) where
   abbrev start : tie.Start
-  start = c .before .before .before .before
+  start = c .before .before
 
-  re-is : toZ w32 (ofZ w32 (c .before .before .signed-sum .result)) ≡ signed-sum (start .args .re .now) 0 1 (start .args .signs)
-  re-is = let f : SFits w32 (c .before .before .signed-sum .result) = search needs in toZ-ofZ f ∙ c .before .before .signed-sum .ensures
+  re-is : toZ w32 (ofZ w32 (c .before .signed-sum .result)) ≡ signed-sum (start .args .re .now) 0 (start .args .signs)
+  re-is = let f : SFits w32 (c .before .signed-sum .result) = search needs in toZ-ofZ f ∙ c .before .signed-sum .ensures
 
-  im-is : toZ w32 (ofZ w32 (c .signed-sum2 .result)) ≡ signed-sum (start .args .im .now) 0 1 (start .args .signs)
+  im-is : toZ w32 (ofZ w32 (c .signed-sum2 .result)) ≡ signed-sum (start .args .im .now) 0 (start .args .signs)
   im-is = let f : SFits w32 (c .signed-sum2 .result) = search needs in toZ-ofZ f ∙ c .signed-sum2 .ensures
 
 times-one-minus-j-requires : tie.Need-times-one-minus-j-requires
 times-one-minus-j-requires c κs =
     let s = start c in
-    record { re = held (re-is c) (signed-sum-within (s .pre .0) _ _ _); im = held (im-is c) (signed-sum-within (s .pre .1) _ _ _) }
+    record { re = held (re-is c) (signed-sum-within (s .pre .0) _ _); im = held (im-is c) (signed-sum-within (s .pre .1) _ _) }
 
 returns : tie.Need-returns
 unfolding correlated

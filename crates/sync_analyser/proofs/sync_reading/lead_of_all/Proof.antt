@@ -1,52 +1,49 @@
--- `lead_of_all` meets its contract. The loop's invariant: `leader` leads the candidates passed. Assumes nothing.
-use mathlib.Core.Path.{_≡_, refl, sym, _∙_, subst}
-use mathlib.Core.Bool.{Bool, true, false, cond}
-use lib.Dec.{eqb}
-use Prim.Native.Nat.{ℕ, _+_, _-_, _≤_}
+-- `lead_of_all` meets its contract. The loop's invariant: `leader` leads the candidates of the sets passed. Assumes nothing.
+use mathlib.Core.Path.{_≡_, sym, ap, _∙_, subst}
+use Prim.Native.Nat.{ℕ, _+_, _*_, _-_, _≤_}
+use native.Mathlib.Nat.{zero-add}
 use native.Mathlib.Omega.{arith}
-use borrow.Author.Needs.{needs}
-use mir.Syntax.{w64}
-use mir.Val.{SFits}
-use mir.Facts.{toZ-ofZ}
+use lib.IntN.{ℤ}
 use Rattle.complex.specs.Buffers.{value}
 use Rattle.sync_analyser.specs.SyncReading.{candidate, candidates, sent}
-use Rattle.sync_analyser.proofs.Leading.{leads-one, leads-more}
 use Rattle.sync_analyser.specs.Held.{Leads, shares-of}
+use Rattle.sync_analyser.proofs.Leaders.{leads-cong, leads-or-later}
+use Rattle.sync_analyser.proofs.Rows.{Case, case-known}
 use Rattle.sync_analyser.proofs.sync_reading.lead_of_all.Statement.{statement}
 use Rattle.sync_analyser.proofs.sync_reading.lead_of_all.Tie as tie
 
 abbrev Inv-loop : tie.InvT-loop
-Inv-loop re im case leader₀ n₀ n-end leader n = (1 ≤ n) × (n ≤ candidates case) × Leads (λ k. shares-of (value re im) (sent case (candidate case k))) n leader
+Inv-loop re im case leader₀ n₀ n-end leader n = (1 ≤ n) × (n ≤ 2 * case) × Leads (λ k. shares-of (value re im) (sent case (candidate case k))) (32 * n) leader
 
 abbrev μ-loop : tie.MeasureT-loop
-μ-loop re im case leader₀ n₀ n-end leader n = candidates case - n
+μ-loop re im case leader₀ n₀ n-end leader n = 2 * case - n
 
-score-requires : tie.Need-score-requires Inv-loop μ-loop
-score-requires c κs = search needs
+known : (c : tie.Start Inv-loop μ-loop) → Case (c .args .case)
+known c = case-known (c .args .case) (c .pre .0)
 
-candidates-requires : tie.Need-candidates-requires Inv-loop μ-loop
-candidates-requires c κs = search needs
+set-leader-requires : tie.Need-set-leader-requires Inv-loop μ-loop
+set-leader-requires c κs = let k = known c in (omega (arith, k .below), omega (arith, k .some), c .pre .1, c .pre .2)
 
-some-candidate : (case : ℕ) → 1 ≤ candidates case
-some-candidate case = go (eqb case 1)
-  where
-    go : (b : Bool) → 1 ≤ cond b 64 128
-    go true = omega arith
-    go false = omega arith
+mul-n-end : tie.Need-mul-n-end Inv-loop μ-loop
+mul-n-end c = omega (arith, known (c .before) .below)
 
 loop-holds : tie.Need-loop-holds Inv-loop μ-loop
 loop-holds c =
-    let f : SFits w64 (c .before .score .result) = search needs in
-    (omega arith, some-candidate (c .before .before .args .case), leads-one _ _ refl (toZ-ofZ f ∙ c .before .score .ensures) refl)
+    let s = c .before in
+    let scores : ℕ → ℤ = λ k. shares-of (value (s .args .re .now) (s .args .im .now)) (sent (s .args .case) (candidate (s .args .case) k)) in
+    (omega arith, omega (arith, known s .some), leads-cong (λ k. scores (32 * 0 + k)) scores 32 _ (λ k l. ap scores (zero-add k)) (c .set-leader .ensures))
 
-score-requires-2 : tie.Need-score-requires-2 Inv-loop μ-loop
-score-requires-2 c κs = search needs
+mul-or-later : tie.Need-mul-or-later Inv-loop μ-loop
+mul-or-later c = omega (arith, known (c .before .before .before) .below)
 
-met-requires : tie.Need-met-requires Inv-loop μ-loop
-met-requires c κs = search needs
+set-leader-requires-2 : tie.Need-set-leader-requires-2 Inv-loop μ-loop
+set-leader-requires-2 c κs = let s = c .before .before .before in (known s .below, omega arith, s .pre .1, s .pre .2)
+
+or-later-requires : tie.Need-or-later-requires Inv-loop μ-loop
+or-later-requires c κs = (omega (arith, known (c .before .before .before .before) .below), c .set-leader2 .ensures .below)
 
 add-n : tie.Need-add-n Inv-loop μ-loop
-add-n c = omega arith
+add-n c = omega (arith, known (c .before .before .before .before .before) .below)
 
 loop-less : tie.Need-loop-less Inv-loop μ-loop
 loop-less c = omega arith
@@ -54,14 +51,16 @@ loop-less c = omega arith
 loop-again : tie.Need-loop-again Inv-loop μ-loop
 loop-again c =
     let l = c .before .before .before .loop in
-    let f : SFits w64 (c .before .score2 .result) = search needs in
-    (omega arith, omega arith, subst (Leads _ (l .n + 1)) (sym (c .met .ensures)) (leads-more _ (l .n) (l .leader) (l .inv .2) _ (toZ-ofZ f ∙ c .before .score2 .ensures)))
+    let next = leads-or-later (32 * l .n) 32 _ (l .leader) (c .before .set-leader2 .result) (l .inv .2) (c .before .set-leader2 .ensures) in
+    let e : 32 * l .n + 32 ≡ 32 * (l .n + 1) = omega arith in
+    (omega arith, omega arith, subst (Leads _ (32 * (l .n + 1))) (sym (c .or-later .ensures)) (rw e at next))
 
 returns : tie.Need-returns Inv-loop μ-loop
 returns c =
     let l = c .before .loop in
-    let e : l .n ≡ candidates (c .before .before .before .before .args .case) = omega arith in
-    rw e at (l .inv .2)
+    let s = c .before .before .before in
+    let e : 32 * l .n ≡ 32 * (2 * s .args .case) = omega arith in
+    subst (λ (n : ℕ). Leads (λ k. shares-of (value (s .args .re .now) (s .args .im .now)) (sent (s .args .case) (candidate (s .args .case) k))) n (l .leader)) (e ∙ sym (known s .sets)) (l .inv .2)
 
 pub lead-of-all-spec : {M : Type 1} → statement M
 lead-of-all-spec =
@@ -69,11 +68,12 @@ lead-of-all-spec =
     (tie.spec
     Inv-loop
     μ-loop
-    score-requires
-    candidates-requires
+    set-leader-requires
+    mul-n-end
     loop-holds
-    score-requires-2
-    met-requires
+    mul-or-later
+    set-leader-requires-2
+    or-later-requires
     add-n
     loop-less
     loop-again
