@@ -123,6 +123,16 @@ fn answer(number: u32) -> CallAnswer
     }
 }
 
+// The answer of a draw of n chips whose refusal tests found this number.
+fn draw_answer(number: u32, n: usize) -> DrawAnswer
+    ensures { λ r. ⌜ told-draw r ≡ cond (eqb number 0) (gives n) (refused number) ⌝ }
+{
+    match number {
+        0 => DrawAnswer::Drew(n),
+        _ => DrawAnswer::Refused(number),
+    }
+}
+
 impl Bench {
     // Parameter 0, type 1, nothing open, no sync, no slot.
     pub fn fresh() -> Bench
@@ -355,26 +365,27 @@ impl Bench {
         ensures real { λ r. ⌜ now (re .exit) ≡ after (draw-call self (length (now (re .entry))) (length (now (im .entry)))) (now (re .entry)) (λ d. written (d .chips .re) (now (re .entry))) ⌝ }
         ensures imaginary { λ r. ⌜ now (im .exit) ≡ after (draw-call self (length (now (re .entry))) (length (now (im .entry)))) (now (im .entry)) (λ d. written (d .chips .im) (now (im .entry))) ⌝ }
     {
-        if self.running == 0 {
-            return Drawn {
-                answer: DrawAnswer::Refused(11),
-                bench: self,
-            };
+        let number = refusals::draw(self.running, re.len(), im.len());
+        let mut n: usize = 0;
+        // Nothing is written before both tests have passed.
+        if number == 0 {
+            let from = self.position;
+            n = field::smaller(re.len(), field::past(2560, from));
+            field::write(
+                self.sending.cell,
+                self.sending.kind,
+                &self.sending.gains,
+                &self.sending.pairs,
+                self.sending.sync,
+                from,
+                &mut re[..n],
+                &mut im[..n],
+            );
+            self.position = from + n;
+            self.running = running_at(self.running, from + n);
         }
-        if re.len() != im.len() {
-            return Drawn {
-                answer: DrawAnswer::Refused(12),
-                bench: self,
-            };
-        }
-        let s = self.sending;
-        let from = self.position;
-        let n = field::smaller(re.len(), field::past(2560, from));
-        field::write(s, from, &mut re[..n], &mut im[..n]);
-        self.position = from + n;
-        self.running = running_at(self.running, from + n);
         Drawn {
-            answer: DrawAnswer::Drew(n),
+            answer: draw_answer(number, n),
             bench: self,
         }
     }

@@ -1,6 +1,8 @@
 // The refusals of the bench's calls: a call's number from document 01, or 0.
 ghost use mathlib.Core.Path.{_≡_};
+ghost use mathlib.Core.Bool.{cond};
 ghost use Prim.Native.Nat.{_<_, _≤_};
+ghost use lib.Dec.{eqb};
 ghost use Rattle.codes.specs.Range.{any};
 ghost use Rattle.codes.specs.Refusals.{number};
 ghost use Rattle.slot.specs.Slot.{bit-count};
@@ -176,6 +178,19 @@ pub fn set_sync(s: Settings, case: u32, frame: u32, half: u32, gp: u32, gs: u32)
     }
     if is_bad_gain(gs) {
         return 5;
+    }
+    0
+}
+
+// For buffers of m and n entries.
+pub fn draw(running: u8, m: usize, n: usize) -> u32
+    ensures { λ r. ⌜ r ≡ cond (eqb running 0) 11 (cond (eqb m n) 0 12) ⌝ }
+{
+    if running == 0 {
+        return 11;
+    }
+    if m != n {
+        return 12;
     }
     0
 }

@@ -1,5 +1,6 @@
 -- Two arrays of sixteen that a loop writes side by side, and the block made of them. Assumes nothing.
 use mathlib.Core.Path.{_≡_, refl, ap, _∙_}
+use mathlib.Core.Bool.{Bool, true, false}
 use mathlib.Core.List.{List}
 use Prim.Native.Nat.{ℕ, zero, suc, _+_, _≤_, _<_}
 use native.Mathlib.Omega.{arith}
@@ -9,45 +10,52 @@ use Rattle.complex.specs.Arithmetic.{𝟎, 𝟏, 𝐣}
 use Rattle.modulation.specs.Symbols.{symbol}
 use lib.ListN.{set, replicate}
 use mir.Syntax.{w32}
-use mir.Val.{toZ, ofZ}
+use mir.Val.{SFits, toZ, ofZ}
 use mir.Facts.{toZ-ofZ}
 use Rattle.complex.specs.declared.Complex.{Complex}
 use Rattle.complex.specs.Buffers.{listed, written}
-use Rattle.complex.specs.Fits.{Bound, Both, Fits32}
+use Rattle.complex.specs.Fits.{Within, Bound, Both, Fits32}
 use Rattle.complex.proofs.Lists.{one-more-written, listed-cong}
 use Rattle.complex.proofs.Bounds.{bound-listed}
 use Rattle.modulation.specs.declared.Block.{Block}
-use Rattle.modulation.specs.Held.{block-of}
+use Rattle.modulation.specs.Held.{block-of, component}
 
 abbrev zeros : List ℤ
 zeros = replicate 16 (pos 0)
 
--- the first i entries are f's: a loop's invariant
-pub record Filled (f : ℕ → Complex) (re im : List ℤ) (i : ℕ) : Type 0 where
+-- the first i entries are f's: the invariant of a loop that writes one array
+pub record Row (f : ℕ → ℤ) (y : List ℤ) (i : ℕ) : Type 0 where
   pub below : i ≤ 16
-  pub res : re ≡ written (listed i (λ k. f k .re)) zeros
-  pub ims : im ≡ written (listed i (λ k. f k .im)) zeros
+  pub entries : y ≡ written (listed i f) zeros
+
+pub row-none : {f : ℕ → ℤ} → Row f zeros 0
+unfolding listed
+row-none = record { below = omega arith; entries = refl }
+
+module _ {f : ℕ → ℤ} {y : List ℤ} {i : ℕ} (h : Row f y i) where
+  -- a turn of the loop: z is held in a local on its way
+  pub row-more : i < 16 → {z : ℤ} → SFits w32 z → z ≡ f i → Row f (set y i (toZ w32 (ofZ w32 z))) (i + 1)
+  row-more l g e = record { below = omega arith; entries = (λ j. set (h .entries j) i ((toZ-ofZ g ∙ e) j)) ∙ one-more-written f zeros i (omega arith) }
+
+  pub row-all : 16 ≤ i → y ≡ listed 16 f
+  unfolding listed
+  row-all l = let e : i ≡ 16 = omega arith in rw e at (h .entries)
+
+-- and of a loop that writes two
+pub record Filled (f : ℕ → Complex) (re im : List ℤ) (i : ℕ) : Type 0 where
+  pub res : Row (λ k. f k .re) re i
+  pub ims : Row (λ k. f k .im) im i
 
 pub filled-none : {f : ℕ → Complex} → Filled f zeros zeros 0
-unfolding listed
-filled-none = record { below = omega arith; res = refl; ims = refl }
+filled-none = record { res = row-none; ims = row-none }
 
 module _ {f : ℕ → Complex} {re im : List ℤ} {i : ℕ} (h : Filled f re im i) where
-  -- a turn of the loop: z is held in locals on its way
   pub filled-more : i < 16 → (z : Complex) → Fits32 z → z ≡ f i
       → Filled f (set re i (toZ w32 (ofZ w32 (z .re)))) (set im i (toZ w32 (ofZ w32 (z .im)))) (i + 1)
-  filled-more l z g e =
-      record {
-        below = omega arith;
-        res = (λ j. set (h .res j) i ((toZ-ofZ (g .re) ∙ ap (λ (x : Complex). x .re) e) j)) ∙ one-more-written (λ k. f k .re) zeros i (omega arith);
-        ims = (λ j. set (h .ims j) i ((toZ-ofZ (g .im) ∙ ap (λ (x : Complex). x .im) e) j)) ∙ one-more-written (λ k. f k .im) zeros i (omega arith);
-      }
+  filled-more l z g e = record { res = row-more (h .res) l (g .re) (ap (λ (x : Complex). x .re) e); ims = row-more (h .ims) l (g .im) (ap (λ (x : Complex). x .im) e) }
 
   pub filled-all : 16 ≤ i → _≡_ {A = Block} (record { re = re; im = im }) (block-of f)
-  unfolding listed
-  filled-all l =
-      let e : i ≡ 16 = omega arith in
-      λ j. record { re = (rw e at (h .res)) j; im = (rw e at (h .ims)) j }
+  filled-all l = λ j. record { re = row-all (h .res) l j; im = row-all (h .ims) l j }
 
 -- equal entries, equal blocks
 pub block-cong : (f g : ℕ → Complex) → ((i : ℕ) → i < 16 → f i ≡ g i) → block-of f ≡ block-of g
@@ -72,3 +80,11 @@ symbol-both (suc zero) = unit tt tt
 symbol-both (suc (suc zero)) = unit tt tt
 symbol-both (suc (suc (suc zero))) = unit tt tt
 symbol-both (suc (suc (suc (suc n)))) = unit tt tt
+
+-- and of one component of sixteen symbols
+pub symbols-bound : (f : ℕ → ℕ) (b : Bool) {r : List ℤ} → r ≡ listed 16 (λ i. component (symbol (f i)) b) → Bound 1 r
+symbols-bound f b e = rw e (bound-listed 1 16 _ (λ i. part b (symbol-both (f i))))
+  where
+    part : (b : Bool) {z : Complex} → Both 1 z → Within 1 (component z b)
+    part true h = h .re
+    part false h = h .im

@@ -14,7 +14,7 @@ use Rattle.codes.specs.Signs.{_at_}
 use Rattle.codes.specs.Tree.{is-spreading-factor, element, width}
 use Rattle.codes.proofs.Tests.{each-at, same, same→eq}
 use Rattle.codes.proofs.Leaves.{each-code, at-code}
-use Rattle.modulation.specs.Held.{raised, climbed}
+use Rattle.modulation.specs.Held.{raised, own, climbed}
 use Rattle.modulation.specs.Nodes.{node}
 use Rattle.modulation.proofs.Levels.{level}
 
@@ -80,10 +80,10 @@ module _ (Q c : ℕ) (q : T (is-spreading-factor Q)) (l : c < 16) (k : ℕ) (h :
 
   pub climbed-term : (gains : List ℕ) (s x : List ℤ) → entry (level gains s Q x) Q k c *ℤ sign Q k c
       ≡ raised x Q (place Q k c) *ℤ sign Q k c +ℤ pos (getD gains (node Q k) 0) *ℤ entry s Q k c *ℤ sign Q k c
-  unfolding climbed facts
+  unfolding own facts
   climbed-term gains s x =
-      let own : place Q k c / width Q ≡ k = eqb→eq _ _ (fact 1 (omega arith)) in
+      let part : place Q k c / width Q ≡ k = eqb→eq _ _ (fact 1 (omega arith)) in
       ap (λ (t : ℤ). t *ℤ sign Q k c)
       (listed-at (climbed gains s x Q) (pos 0) 16 (place Q k c) (ltb→lt _ 16 (fact 0 (omega arith)))
-      ∙ ap (λ (m : ℕ). raised x Q (place Q k c) +ℤ pos (getD gains (node Q m) 0) *ℤ entry s Q k c) own)
+      ∙ ap (λ (m : ℕ). raised x Q (place Q k c) +ℤ pos (getD gains (node Q m) 0) *ℤ entry s Q k c) part)
       ∙ +ℤ-*ℤ (raised x Q (place Q k c)) (pos (getD gains (node Q k) 0) *ℤ entry s Q k c) (sign Q k c)

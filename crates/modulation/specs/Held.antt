@@ -2,7 +2,7 @@
 use lib.IntN.{ℤ, pos, _+ℤ_, _-ℤ_, _*ℤ_}
 use Prim.Native.Nat.{ℕ, _+_, _*_, _/_, _%_}
 use mathlib.Core.List.{List}
-use mathlib.Core.Bool.{cond}
+use mathlib.Core.Bool.{Bool, not, cond}
 use lib.Dec.{eqb}
 use lib.ListN.{getD}
 use Rattle.complex.specs.declared.Complex.{Complex}
@@ -10,12 +10,15 @@ use Rattle.complex.specs.Arithmetic.{_+j_, real, _⊕_, _⊗_, Σℤ<}
 use Rattle.complex.specs.Buffers.{listed}
 use Rattle.codes.specs.Signs.{_at_}
 use Rattle.codes.specs.Held.{sign-bit}
+use Rattle.codes.specs.Range.{any}
+use Rattle.codes.specs.Scrambling.{scrambling}
 use Rattle.codes.specs.Tree.{element, width}
 use Rattle.sync_codes.specs.declared.ModulatedCode.{ModulatedCode}
 use Rattle.sync_codes.specs.declared.Allocated.{Allocated}
 use Rattle.sync_codes.specs.SyncCodes.{a, b}
 use Rattle.sync_codes.specs.Held.{secondary-row}
 use Rattle.modulation.specs.declared.Block.{Block}
+use Rattle.modulation.specs.declared.data.OpenLevels.{OpenLevels}
 use Rattle.modulation.specs.Nodes.{node}
 
 -- f 0, .., f 15 in a block
@@ -40,9 +43,35 @@ raised x Q i =
     cond (eqb Q 16) (pos 0)
     (cond (eqb (i % 2) 0) (getD x n (pos 0) +ℤ getD x (n + w / 2) (pos 0)) (getD x n (pos 0) -ℤ getD x (n + w / 2) (pos 0)))
 
--- and with the gains of level Q's own codes on the symbols s
-unfoldable pub climbed : List ℕ → List ℤ → List ℤ → ℕ → ℕ → ℤ
-climbed gains s x Q i = raised x Q i +ℤ pos (getD gains (node Q (i / width Q)) 0) *ℤ getD s i (pos 0)
+-- what level Q's own codes add to its entry i, by their gains on the symbols s
+unfoldable pub own : List ℕ → List ℤ → ℕ → ℕ → ℤ
+own gains s Q i = pos (getD gains (node Q (i / width Q)) 0) *ℤ getD s i (pos 0)
+
+-- and with both: entry i of level Q from the entries x of the level below it
+abbrev pub climbed : List ℕ → List ℤ → List ℤ → ℕ → ℕ → ℤ
+climbed gains s x Q i = raised x Q i +ℤ own gains s Q i
+
+-- the entries x of level Q itself, with its own codes
+abbrev pub joined : List ℕ → List ℤ → List ℤ → ℕ → ℕ → ℤ
+joined gains s x Q i = getD x i (pos 0) +ℤ own gains s Q i
+
+-- whether a code of factor Q is open
+abbrev pub has-open : List ℕ → ℕ → Bool
+has-open gains Q = any Q (λ k. not (eqb (getD gains (node Q k) 0) 0))
+
+abbrev pub levels-of : List ℕ → OpenLevels
+levels-of gains = record { q1 = has-open gains 1; q2 = has-open gains 2; q4 = has-open gains 4; q8 = has-open gains 8; q16 = has-open gains 16 }
+
+abbrev pub component : Complex → Bool → ℤ
+component z re = cond re (z .re) (z .im)
+
+-- ---- scrambling: (x + y j) w for a w that is imaginary at even places, real at odd ones. With w (1 + j) = t + u j the product is
+-- t y + u x j at even places, t x + u y j at odd ones.
+abbrev pub turn-at : ℕ → ℕ → Complex
+turn-at p i = scrambling p (i + 1) ⊗ (pos 1 +j pos 1)
+
+abbrev pub turned : List ℤ → List ℤ → List ℤ → ℕ → ℤ
+turned t even odd i = getD t i (pos 0) *ℤ cond (eqb (i % 2) 0) (getD even i (pos 0)) (getD odd i (pos 0))
 
 -- ---- the burst by parts of sixteen chips
 -- what (1 + j) b is multiplied by in part m of a modulated code

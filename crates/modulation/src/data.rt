@@ -5,14 +5,12 @@ ghost use Prim.Native.Nat.{ℕ, _+_, _/_, _%_, _<_, _≤_};
 ghost use lib.Dec.{eqb};
 ghost use lib.IntN.{pos, _+ℤ_, _-ℤ_, _*ℤ_};
 ghost use lib.ListN.{getD};
-ghost use Rattle.complex.specs.Arithmetic.{_⊕_, _⊗_};
-ghost use Rattle.complex.specs.Buffers.{listed, value};
+ghost use Rattle.complex.specs.Buffers.{listed};
 ghost use Rattle.complex.specs.Fits.{Bound, Within};
-ghost use Rattle.codes.specs.Scrambling.{scrambling};
 ghost use Rattle.codes.specs.Tree.{is-spreading-factor, width};
 ghost use Rattle.modulation.specs.Symbols.{symbol as symbol-of};
 ghost use Rattle.modulation.specs.Nodes.{node as node-of};
-ghost use Rattle.modulation.specs.Held.{block-of, climbed as climbed-of, raised as raised-of, spread as spread-of};
+ghost use Rattle.modulation.specs.Held.{block-of, climbed as climbed-of, component as component-of, has-open, joined as joined-of, levels-of, raised as raised-of, spread as spread-of, turn-at, turned as turned-of};
 use crate::Block;
 use codes::CellParameter;
 use codes::scrambling;
@@ -31,37 +29,23 @@ fn symbol(pair: u8) -> Complex
     }
 }
 
-// The symbols of the sixteen pairs from `from` on.
-pub fn symbols(pairs: &[u8; 2208], from: usize) -> Block
-    requires { ⌜ from + 16 ≤ 2208 ⌝ }
-    ensures { λ r. ⌜ r ≡ block-of (λ i. symbol-of (getD (now (pairs .entry)) (from + i) 0)) ⌝ }
+// One component of a value, the real or the imaginary one.
+fn component(z: Complex, real: bool) -> i32
+    ensures { λ r. ⌜ r ≡ component-of z real ⌝ }
 {
-    let mut re = [0i32; 16];
-    let mut im = [0i32; 16];
-    for i in 0..16 {
-        let y = symbol(pairs[from + i]);
-        let a = y.re;
-        let b = y.im;
-        re[i] = a;
-        im[i] = b;
-    }
-    Block { re: re, im: im }
+    if real { z.re } else { z.im }
 }
 
-// The sixteen elements of a cell's scrambling code.
-pub fn scrambling_row(cell: CellParameter) -> Block
-    ensures { λ r. ⌜ r ≡ block-of (λ i. scrambling (cell .0) (i + 1)) ⌝ }
+// One component of the symbols of the sixteen pairs from `from` on.
+pub fn symbols(pairs: &[u8; 2208], from: usize, real: bool) -> [i32; 16]
+    requires { ⌜ from + 16 ≤ 2208 ⌝ }
+    ensures { λ r. ⌜ r ≡ listed 16 (λ i. component-of (symbol-of (getD (now (pairs .entry)) (from + i) 0)) real) ⌝ }
 {
-    let mut re = [0i32; 16];
-    let mut im = [0i32; 16];
+    let mut x = [0i32; 16];
     for i in 0..16 {
-        let y = scrambling::element(cell, i as u32);
-        let a = y.re;
-        let b = y.im;
-        re[i] = a;
-        im[i] = b;
+        x[i] = component(symbol(pairs[from + i]), real);
     }
-    Block { re: re, im: im }
+    x
 }
 
 // Where the gain stands of the code of factor q that owns entry i of a block.
@@ -99,7 +83,7 @@ fn sum_or_difference(x: &[i32; 16], n: usize, h: usize, i: usize) -> i32
 }
 
 // Entry i of level q, from the entries x of the level below it in the tree; level 16 has none below.
-fn raised(x: &[i32; 16], q: usize, i: usize) -> i32
+fn raised_entry(x: &[i32; 16], q: usize, i: usize) -> i32
     requires { ⌜ (is-spreading-factor q ≡ true) × (i < 16) × Bound 983025 (now x) ⌝ }
     ensures { λ r. ⌜ r ≡ raised-of (now (x .entry)) q i ⌝ }
 {
@@ -120,63 +104,132 @@ fn plus_gain(x: i32, gain: u16, s: i32) -> i32
     x + gain as i32 * s
 }
 
-// The entries of level q, from those of the level below it and from its own codes' gains and symbols.
-fn climbed(gains: &[u16; 31], s: &[i32; 16], x: &[i32; 16], q: usize) -> [i32; 16]
-    requires { ⌜ (is-spreading-factor q ≡ true) × Bound 1 (now s) × Bound 983025 (now x) ⌝ }
-    ensures entries { λ r. ⌜ r ≡ listed 16 (climbed-of (now (gains .entry)) (now (s .entry)) (now (x .entry)) q) ⌝ }
-    ensures size { λ r. ⌜ ((k : ℕ) → k ≤ 983025 → Bound k (now (x .entry)) → Bound (k + k + 65535) r) ⌝ }
+// A round: the entries of level q from those of the level below it.
+fn raised(x: &[i32; 16], q: usize) -> [i32; 16]
+    requires { ⌜ (is-spreading-factor q ≡ true) × Bound 983025 (now x) ⌝ }
+    ensures { λ r. ⌜ r ≡ listed 16 (raised-of (now (x .entry)) q) ⌝ }
 {
     let mut y = [0i32; 16];
     for i in 0..16 {
-        y[i] = plus_gain(raised(x, q, i), gain_at(gains, q, i), s[i]);
+        y[i] = raised_entry(x, q, i);
     }
     y
 }
 
+// The entries x of level q with the gains of its own codes on the symbols s.
+fn joined(gains: &[u16; 31], s: &[i32; 16], x: &[i32; 16], q: usize) -> [i32; 16]
+    requires { ⌜ (is-spreading-factor q ≡ true) × Bound 1 (now s) × Bound 1966050 (now x) ⌝ }
+    ensures entries { λ r. ⌜ r ≡ listed 16 (joined-of (now (gains .entry)) (now (s .entry)) (now (x .entry)) q) ⌝ }
+    ensures size { λ r. ⌜ ((k : ℕ) → k ≤ 1966050 → Bound k (now (x .entry)) → Bound (k + 65535) r) ⌝ }
+{
+    let mut y = [0i32; 16];
+    for i in 0..16 {
+        y[i] = plus_gain(x[i], gain_at(gains, q, i), s[i]);
+    }
+    y
+}
+
+// The entries of level q, from those of the level below it and from its own codes' gains and symbols; where no code of the level is open
+// there is nothing to join.
+fn climbed(gains: &[u16; 31], any_open: bool, s: &[i32; 16], x: &[i32; 16], q: usize) -> [i32; 16]
+    requires { ⌜ (is-spreading-factor q ≡ true) × (any_open ≡ has-open (now gains) q) × Bound 1 (now s) × Bound 983025 (now x) ⌝ }
+    ensures entries { λ r. ⌜ r ≡ listed 16 (climbed-of (now (gains .entry)) (now (s .entry)) (now (x .entry)) q) ⌝ }
+    ensures size { λ r. ⌜ ((k : ℕ) → k ≤ 983025 → Bound k (now (x .entry)) → Bound (k + k + 65535) r) ⌝ }
+{
+    let mut y = raised(x, q);
+    if any_open {
+        y = joined(gains, s, &y, q);
+    }
+    y
+}
+
+// Whether a code of factor q is open.
+fn is_any_open(gains: &[u16; 31], q: usize) -> bool
+    requires { ⌜ q ≤ 16 ⌝ }
+    ensures { λ r. ⌜ r ≡ has-open (now (gains .entry)) q ⌝ }
+{
+    let mut found = false;
+    for k in 0..q {
+        found = gains[q - 1 + k] != 0 || found;
+    }
+    found
+}
+
+// Which levels of the tree have an open code.
+pub struct OpenLevels {
+    pub q1: bool,
+    pub q2: bool,
+    pub q4: bool,
+    pub q8: bool,
+    pub q16: bool,
+}
+
+pub fn open_levels(gains: &[u16; 31]) -> OpenLevels
+    ensures { λ r. ⌜ r ≡ levels-of (now (gains .entry)) ⌝ }
+{
+    OpenLevels {
+        q1: is_any_open(gains, 1),
+        q2: is_any_open(gains, 2),
+        q4: is_any_open(gains, 4),
+        q8: is_any_open(gains, 8),
+        q16: is_any_open(gains, 16),
+    }
+}
+
 // One component of the sixteen chips before scrambling, from that component of the sixteen symbols: four rounds of sums and
 // differences up the tree, since each code stands in the two below it, once with its second half negated.
-pub fn spread(gains: &[u16; 31], s: &[i32; 16]) -> [i32; 16]
-    requires { ⌜ Bound 1 (now s) ⌝ }
+pub fn spread(gains: &[u16; 31], levels: OpenLevels, s: &[i32; 16]) -> [i32; 16]
+    requires { ⌜ (levels ≡ levels-of (now gains)) × Bound 1 (now s) ⌝ }
     ensures entries { λ r. ⌜ r ≡ listed 16 (spread-of (now (gains .entry)) (now (s .entry))) ⌝ }
     ensures size { λ r. ⌜ Bound 2031585 r ⌝ }
 {
     let none = [0i32; 16];
-    let x16 = climbed(gains, s, &none, 16);
-    let x8 = climbed(gains, s, &x16, 8);
-    let x4 = climbed(gains, s, &x8, 4);
-    let x2 = climbed(gains, s, &x4, 2);
-    climbed(gains, s, &x2, 1)
+    let x16 = climbed(gains, levels.q16, s, &none, 16);
+    let x8 = climbed(gains, levels.q8, s, &x16, 8);
+    let x4 = climbed(gains, levels.q4, s, &x8, 4);
+    let x2 = climbed(gains, levels.q2, s, &x4, 2);
+    climbed(gains, levels.q1, s, &x2, 1)
 }
 
-// Sixteen chips: each of the values x + y j times its scrambling element, plus the burst's chip.
-pub fn scrambled(
-    x: &[i32; 16],
-    y: &[i32; 16],
-    wre: &[i32; 16],
-    wim: &[i32; 16],
-    bre: &[i32; 16],
-    bim: &[i32; 16],
-) -> Block
-    requires { ⌜ Bound 2031585 (now x) × Bound 2031585 (now y) × Bound 1 (now wre) × Bound 1 (now wim) × Bound 1000000 (now bre) × Bound 1000000 (now bim) ⌝ }
-    ensures { λ r. ⌜ r ≡ block-of (λ c. value (now (x .entry)) (now (y .entry)) c ⊗ value (now (wre .entry)) (now (wim .entry)) c ⊕ value (now (bre .entry)) (now (bim .entry)) c) ⌝ }
+// The elements of a cell's scrambling code, each times 1 + j: they are imaginary at even places and real at odd ones, so that each component
+// of a product with one is a single product, with a component of this row.
+pub fn turns(cell: CellParameter) -> Block
+    ensures { λ r. ⌜ r ≡ block-of (turn-at (cell .0)) ⌝ }
 {
+    let one_plus_j = Complex { re: 1, im: 1 };
     let mut re = [0i32; 16];
     let mut im = [0i32; 16];
     for i in 0..16 {
-        let v = Complex { re: x[i], im: y[i] };
-        let w = Complex {
-            re: wre[i],
-            im: wim[i],
-        };
-        let b = Complex {
-            re: bre[i],
-            im: bim[i],
-        };
-        let c = v.times(w).plus(b);
-        let p = c.re;
-        let q = c.im;
-        re[i] = p;
-        im[i] = q;
+        let y = scrambling::element(cell, i as u32).times(one_plus_j);
+        let a = y.re;
+        let b = y.im;
+        re[i] = a;
+        im[i] = b;
     }
     Block { re: re, im: im }
+}
+
+// Entry i of `even` where i is even, else of `odd`, times t's.
+fn turned_entry(t: &[i32; 16], even: &[i32; 16], odd: &[i32; 16], i: usize) -> i32
+    requires { ⌜ (i < 16) × Bound 2 (now t) × Bound 2031585 (now even) × Bound 2031585 (now odd) ⌝ }
+    ensures { λ r. ⌜ r ≡ turned-of (now (t .entry)) (now (even .entry)) (now (odd .entry)) i ⌝ }
+{
+    if i % 2 == 0 {
+        t[i] * even[i]
+    } else {
+        t[i] * odd[i]
+    }
+}
+
+// One component of sixteen values times the scrambling code, from the code's turns for this component and the values' components that make
+// it at even places and at odd ones.
+pub fn turned(t: &[i32; 16], even: &[i32; 16], odd: &[i32; 16]) -> [i32; 16]
+    requires { ⌜ Bound 2 (now t) × Bound 2031585 (now even) × Bound 2031585 (now odd) ⌝ }
+    ensures { λ r. ⌜ r ≡ listed 16 (turned-of (now (t .entry)) (now (even .entry)) (now (odd .entry))) ⌝ }
+{
+    let mut y = [0i32; 16];
+    for i in 0..16 {
+        y[i] = turned_entry(t, even, odd, i);
+    }
+    y
 }

@@ -1,22 +1,26 @@
 -- What the burst adds to sixteen chips of the slot from a multiple of 16 on: nothing, or one of its parts. Assumes nothing.
-use mathlib.Core.Path.{_≡_, sym, ap, _∙_}
-use mathlib.Core.Bool.{Bool, true, false, cond, _&&_, _||_, or-true}
+use mathlib.Core.Path.{_≡_, refl, sym, subst, ap, _∙_}
+use mathlib.Core.Bool.{Bool, true, false, cond, _&&_, _||_, or-true, false≢true}
 use mathlib.Core.Logic.{_⊎_, inl, inr}
-use mathlib.Core.Option.{none, some}
+use mathlib.Core.Option.{Option, none, some}
 use Prim.Native.Nat.{ℕ, _+_, _*_, _-_, _/_, _%_, _≤_, _<_}
+use native.Mathlib.Decide.{decLe}
+use native.Mathlib.Nat.{lt-of-not-le}
 use native.Mathlib.Omega.{arith}
-use borrow.Author.Tests.{eq-eqb, ne-eqb, le-leb, lt-leb}
+use borrow.Author.Tests.{eq-eqb, ne-eqb, le-leb, lt-leb, lt-ltb, leb-false}
 use mir.Facts.{and-yes}
-use lib.Dec.{T, eqb, leb, ltb, ltb→lt, lit≤}
+use lib.Dec.{T, eqb, leb, leb→le, ltb, ltb→lt, lit≤}
 use Rattle.complex.specs.Arithmetic.{𝟎}
 use Rattle.complex.specs.Fits.{Both}
 use Rattle.complex.proofs.Components.{both-more}
 use Rattle.codes.specs.Scrambling.{code-group}
+use Rattle.codes.proofs.Tests.{neither}
 use Rattle.sync_codes.specs.Burst.{burst, burst-start}
 use Rattle.slot.specs.declared.Sync.{Sync}
 use Rattle.slot.specs.Setup.{SyncSetup}
 use Rattle.slot.specs.Slot.{sync-chip}
 use Rattle.slot.specs.Tables.{view-sync}
+use Rattle.slot.specs.Held.{falls-on}
 use Rattle.modulation.specs.Held.{block-of}
 use Rattle.modulation.proofs.Blocks.{block-cong}
 use Rattle.modulation.proofs.BurstParts.{burst-both}
@@ -49,12 +53,12 @@ module _ (p : ℕ) (y : SyncSetup) (x : ℕ) (m : x % 16 ≡ 0) where
   abbrev start : ℕ
   start = cell-start p
 
-  pub block-outside : (x < start) ⊎ (start + 256 ≤ x) → block-of (λ i. 𝟎) ≡ block-of (λ i. sync-chip p (some y) (x + i))
-  block-outside h = block-cong _ _ (λ i l. sym (sync-outside p y (x + i) (shifted i l h)))
+  pub outside : (x < start) ⊎ (start + 256 ≤ x) → (i : ℕ) → i < 16 → sync-chip p (some y) (x + i) ≡ 𝟎
+  outside h i l = sync-outside p y (x + i) (shifted h)
     where
-      shifted : (i : ℕ) → i < 16 → (x < start) ⊎ (start + 256 ≤ x) → (x + i < start) ⊎ (start + 256 ≤ x + i)
-      shifted i l (inl h) = inl (omega (arith, start-multiple (code-group p)))
-      shifted i l (inr h) = inr (omega arith)
+      shifted : (x < start) ⊎ (start + 256 ≤ x) → (x + i < start) ⊎ (start + 256 ≤ x + i)
+      shifted (inl h) = inl (omega (arith, start-multiple (code-group p)))
+      shifted (inr h) = inr (omega arith)
 
   pub block-inside : start ≤ x → x < start + 256
       → block-of (λ i. burst (y .case) (code-group p) (y .frame) (y .half) (y .gP) (y .gS) ((x - start) / 16 * 16 + i)) ≡ block-of (λ i. sync-chip p (some y) (x + i))
@@ -65,6 +69,31 @@ module _ (p : ℕ) (y : SyncSetup) (x : ℕ) (m : x % 16 ≡ 0) where
 
       below : (i : ℕ) → i < 16 → (x - start) / 16 * 16 + i < 256
       below i l = omega arith
+
+-- ---- where it falls, by the test
+-- nowhere on the sixteen chips
+pub falls-nowhere : (p : ℕ) (o : Option SyncSetup) (x : ℕ) → x % 16 ≡ 0 → falls-on p o x ≡ false → (i : ℕ) → i < 16 → sync-chip p o (x + i) ≡ 𝟎
+unfolding falls-on sync-chip
+falls-nowhere p none x m e i l = refl
+falls-nowhere p (some y) x m e i l = outside p y x m (either (decLe (cell-start p) x) (decLe (cell-start p + 256) x)) i l
+  where
+    either : Dec (cell-start p ≤ x) → Dec (cell-start p + 256 ≤ x) → (x < cell-start p) ⊎ (cell-start p + 256 ≤ x)
+    either (no h) d = inl (lt-of-not-le h)
+    either (yes h) (yes g) = inr g
+    either (yes h) (no g) = absurd (false≢true (sym (rw (le-leb _ _ h, lt-ltb _ _ (lt-of-not-le g)) at e)))
+
+-- on them
+pub falls-there : (p : ℕ) (y : Sync) (x : ℕ) → falls-on p (view-sync p y) x ≡ true
+    → (view-sync p y ≡ some (viewed y)) × (p < 128) × (cell-start p ≤ x) × (x < cell-start p + 256)
+unfolding falls-on view-sync
+falls-there p y x e = go (eqb (y .on) 0 || leb 128 p) refl e
+  where
+    go : (b : Bool) → (eqb (y .on) 0 || leb 128 p) ≡ b → falls-on p (cond b none (some (viewed y))) x ≡ true
+        → (cond b none (some (viewed y)) ≡ some (viewed y)) × (p < 128) × (cell-start p ≤ x) × (x < cell-start p + 256)
+    go true h e = absurd (false≢true e)
+    go false h e =
+        let t = and-yes (leb (cell-start p) x) (ltb x (cell-start p + 256)) (subst T (sym e) tt) in
+        (refl, leb-false 128 p (neither (eqb (y .on) 0) (leb 128 p) h .1), leb→le (cell-start p) x (t .0), ltb→lt x (cell-start p + 256) (t .1))
 
 -- ---- its size
 none-both : Both 1000000 𝟎

@@ -1,6 +1,6 @@
 -- Where the sync burst falls, and that the slot has all of it. Assumes nothing.
 use mathlib.Core.Path.{_≡_, ap, _∙_}
-use mathlib.Core.Bool.{Bool, _&&_, _||_, and-false}
+use mathlib.Core.Bool.{Bool, cond, _&&_, _||_, and-false}
 use mathlib.Core.Logic.{_⊎_, inl, inr}
 use mathlib.Core.Option.{Option, none, some}
 use Prim.Native.Nat.{ℕ, _+_, _-_, _≤_, _<_}
@@ -23,6 +23,10 @@ use Rattle.slot.specs.Slot.{burst-type, data-chip, sync-chip, chip}
 -- the chip of the slot at which the burst of a cell starts
 abbrev pub cell-start : ℕ → ℕ
 cell-start p = burst-start (code-group p)
+
+-- as the code finds it, by the cell's group g
+pub start-found : (p g : ℕ) {r : ℕ} → p < 128 → g ≡ code-group p → r ≡ cond (leb 32 g) 0 (burst-start g) → r ≡ cell-start p
+start-found p g h e q = q ∙ ap (λ (g : ℕ). cond (leb 32 g) 0 (burst-start g)) e ∙ rw (lt-leb 32 (code-group p) (omega arith))
 
 -- ---- the burst where it falls, and nothing elsewhere
 module _ (p : ℕ) (y : SyncSetup) where

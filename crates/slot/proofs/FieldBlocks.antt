@@ -1,51 +1,84 @@
--- A block of sixteen values, and the chips of a field that it holds. Assumes nothing.
-use mathlib.Core.Path.{_≡_, sym, ap, _∙_}
+-- The chips that a block of sixteen holds, with the burst's, and that they are the field's. Assumes nothing.
+use mathlib.Core.Path.{_≡_, refl, sym, ap, ap₂, _∙_}
+use mathlib.Core.Bool.{true, false, cond}
 use mathlib.Core.List.{List}
-use Prim.Native.Nat.{ℕ, _+_, _%_, _<_}
-use native.Mathlib.Nat.{add-assoc}
-use lib.IntN.{ℤ}
-use Rattle.complex.specs.Arithmetic.{_⊕_, _⊗_}
+use Prim.Native.Nat.{ℕ, _+_, _-_, _%_, _<_, _≤_}
+use native.Mathlib.Decide.{decLe}
+use native.Mathlib.Nat.{lt-of-not-le}
+use native.Mathlib.Omega.{arith}
+use borrow.Author.Tests.{lt-ltb, le-ltb}
+use lib.Dec.{ltb}
+use lib.IntN.{ℤ, pos, _+ℤ_}
+use lib.ListN.{getD}
+use Rattle.complex.specs.Arithmetic.{𝟎, _⊕_, _⊗_}
 use Rattle.complex.specs.declared.Complex.{Complex}
 use Rattle.complex.specs.Buffers.{listed, value}
-use Rattle.complex.proofs.Lists.{value-in-buffers, listed-cong}
+use Rattle.complex.proofs.Lists.{value-in-buffers, listed-at, listed-cong}
+use Rattle.complex.proofs.Ring.{⊕-𝟎}
 use Rattle.codes.specs.Scrambling.{scrambling}
-use Rattle.slot.specs.declared.Settings.{Settings}
 use Rattle.modulation.specs.declared.Block.{Block}
-use Rattle.slot.specs.Slot.{data-chips, sync-chip, field-chip}
+use Rattle.modulation.specs.Held.{block-of, turn-at}
+use Rattle.modulation.proofs.Turns.{turned-chip}
+use Rattle.slot.specs.declared.Settings.{Settings}
+use Rattle.slot.specs.Slot.{data-chips, data-chip, sync-chip, field-chip}
 use Rattle.slot.specs.Tables.{view, view-sync}
-use Rattle.modulation.specs.Held.{block-of, spread}
+use Rattle.slot.specs.Held.{spread-row, block-chip, held-chip}
 use Rattle.slot.proofs.Viewed.{symbols-from, spread-chip, data-is}
 
--- entry c of a block
-abbrev entry : Block → ℕ → Complex
-entry x c = value (x .re) (x .im) c
+-- ---- one component of the chips of a block f and of a burst b
+module _ (part : Complex → ℤ) (add : (z w : Complex) → part z +ℤ part w ≡ part (z ⊕ w)) (f : ℕ → Complex) where
+  -- summed entry by entry
+  pub summed : (b : ℕ → Complex) (c d : List ℤ) {x : List ℤ} → x ≡ listed 16 (λ i. getD c i (pos 0) +ℤ getD d i (pos 0)) → c ≡ listed 16 (λ i. part (f i))
+      → ((i : ℕ) → getD d i (pos 0) ≡ part (b i)) → x ≡ listed 16 (λ i. part (f i ⊕ b i))
+  summed b c d e g h =
+      e ∙ listed-cong 16 _ _ (λ i l. ap (λ (c : List ℤ). getD c i (pos 0) +ℤ getD d i (pos 0)) g ∙ ap₂ _+ℤ_ (listed-at (λ i. part (f i)) (pos 0) 16 i l) (h i) ∙ add (f i) (b i))
 
-entry-of : (x : Block) (f : ℕ → Complex) → x ≡ block-of f → (c : ℕ) → c < 16 → entry x c ≡ f c
-entry-of x f e c l = ap (λ (y : Block). entry y c) e ∙ value-in-buffers 16 f c l
+  -- of a whole block where there is no burst
+  pub whole-chips : (s : ℕ → Complex) (n i : ℕ) {ys : List ℤ} → n ≡ 16 → i + n ≤ 16 → ((k : ℕ) → k < 16 → s k ≡ 𝟎) → ys ≡ listed 16 (λ k. part (f k))
+      → ys ≡ listed n (λ j. part (f (i + j) ⊕ s (i + j)))
+  whole-chips s n i e h z q =
+      let first : i ≡ 0 = omega arith in
+      q
+      ∙ ap (λ (n : ℕ). listed n (λ k. part (f k))) (sym e)
+      ∙ listed-cong n _ _ (λ j l. let k : i + j ≡ j = omega arith in ap part (sym (ap₂ (λ (m : ℕ) (w : Complex). f m ⊕ w) k (z (i + j) (omega arith)) ∙ ⊕-𝟎 (f j))))
 
--- r is made of x and y, and they of the components of the symbols s
-pub spread-is : (gains : List ℕ) (symbol-at w b : ℕ → Complex) (s : Block) (x y : List ℤ) (r : Block) → s ≡ block-of symbol-at
-    → x ≡ listed 16 (spread gains (s .re)) → y ≡ listed 16 (spread gains (s .im)) → r ≡ block-of (λ c. value x y c ⊗ w c ⊕ b c)
-    → r ≡ block-of (λ c. spread-chip gains symbol-at c ⊗ w c ⊕ b c)
-spread-is gains symbol-at w b s x y r e f g h =
-    h ∙ (λ j. record { re = listed-cong 16 _ _ (λ c l. ap (λ (z : Complex). z .re) (chip c l)) j; im = listed-cong 16 _ _ (λ c l. ap (λ (z : Complex). z .im) (chip c l)) j })
-  where
-    chip : (c : ℕ) → c < 16 → value x y c ⊗ w c ⊕ b c ≡ spread-chip gains symbol-at c ⊗ w c ⊕ b c
-    chip c l =
-        ap (λ (z : Complex). z ⊗ w c ⊕ b c)
-        ((λ j. value (f j) (g j) c)
-        ∙ ap (λ (s : Block). value (listed 16 (spread gains (s .re))) (listed 16 (spread gains (s .im))) c) e
-        ∙ value-in-buffers 16 (spread-chip gains symbol-at) c l)
+  -- of part of a block whose burst's chips stand in a block r
+  pub part-chips : (s : ℕ → Complex) (n i : ℕ) {r : Block} {ys : List ℤ} → r ≡ block-of s → i + n ≤ 16
+      → ys ≡ listed n (λ j. part (f (i + j) ⊕ value (r .re) (r .im) (i + j))) → ys ≡ listed n (λ j. part (f (i + j) ⊕ s (i + j)))
+  part-chips s n i e h q =
+      q ∙ listed-cong n _ _ (λ j l. ap (λ (w : Complex). part (f (i + j) ⊕ w)) (ap (λ (r : Block). value (r .re) (r .im) (i + j)) e ∙ value-in-buffers 16 s (i + j) (omega arith)))
 
--- r is made of the pairs from before + first on, the scrambling code w and the burst's chips b: it holds the chips of the field from `first` on
-module _ (s : Settings) (before start first : ℕ) (w b r : Block)
-    (w-is : w ≡ block-of (λ i. scrambling (s .cell .0) (i + 1)))
-    (b-is : b ≡ block-of (λ i. sync-chip (s .cell .0) (view-sync (s .cell .0) (s .sync)) (start + first + i)))
-    (r-is : r ≡ block-of (λ c. spread-chip (s .gains) (symbols-from s (before + first)) c ⊗ entry w c ⊕ entry b c)) where
-  pub block-is : before % 16 ≡ 0 → first % 16 ≡ 0 → (c : ℕ) → c < 16 → before + first + c < data-chips (s .kind)
-      → entry r c ≡ field-chip (view s) before start (first + c)
+-- ---- a chip made of the pairs from before + first on, scrambled by the cell's turns, is the field's
+module _ (s : Settings) (before start q : ℕ) {t u : List ℤ} (t-is : t ≡ listed 16 (λ i. turn-at (s .cell .0) i .re)) (u-is : u ≡ listed 16 (λ i. turn-at (s .cell .0) i .im)) where
+  abbrev first : ℕ
+  first = q - q % 16
+
+  scrambled : block-chip (s .gains) (s .pairs) (before + first) t u (q % 16)
+      ≡ spread-chip (s .gains) (symbols-from s (before + first)) (q % 16) ⊗ scrambling (s .cell .0) (q % 16 + 1)
+  scrambled =
+      let x = spread-row (s .gains) (s .pairs) (before + first) true in
+      let y = spread-row (s .gains) (s .pairs) (before + first) false in
+      let l : q % 16 < 16 = omega arith in
+      ap₂ (λ (t u : List ℤ). block-chip (s .gains) (s .pairs) (before + first) t u (q % 16)) t-is u-is
+      ∙ turned-chip (s .cell .0) x y (q % 16) l
+      ∙ ap (λ (z : Complex). z ⊗ scrambling (s .cell .0) (q % 16 + 1)) (value-in-buffers 16 (spread-chip (s .gains) (symbols-from s (before + first))) (q % 16) l)
+
+  pub held-is : before % 16 ≡ 0 → before + q < data-chips (s .kind) → held-chip (s .gains) (s .pairs) (s .cell .0) (s .sync) t u before start q ≡ field-chip (view s) before start q
   unfolding view
-  block-is p q c l d =
-      entry-of r _ r-is c l
-      ∙ (λ j. spread-chip (s .gains) (symbols-from s (before + first)) c ⊗ entry-of w _ w-is c l j ⊕ entry-of b _ b-is c l j)
-      ∙ (λ j. sym (data-is s before first c p q l d) j ⊕ sync-chip (s .cell .0) (view-sync (s .cell .0) (s .sync)) (add-assoc start first c j))
+  held-is p d =
+      let e : first + q % 16 ≡ q = omega arith in
+      ap (λ (z : Complex). z ⊕ sync-chip (s .cell .0) (view-sync (s .cell .0) (s .sync)) (start + q))
+      (scrambled ∙ sym (data-is s before first (q % 16) p (omega arith) (omega arith) (omega arith)) ∙ ap (data-chip (view s) before) e)
+
+-- and so are a half's first a chips
+pub half-is : (s : Settings) (before start q a : ℕ) {t u : List ℤ} → t ≡ listed 16 (λ i. turn-at (s .cell .0) i .re) → u ≡ listed 16 (λ i. turn-at (s .cell .0) i .im)
+    → before % 16 ≡ 0 → (0 < a → before + q + a ≤ data-chips (s .kind)) → (i : ℕ)
+    → cond (ltb i a) (held-chip (s .gains) (s .pairs) (s .cell .0) (s .sync) t u before start (q + i)) 𝟎 ≡ cond (ltb i a) (field-chip (view s) before start (q + i)) 𝟎
+half-is s before start q a {t} {u} t-is u-is p d i = go (decLe a i)
+  where
+    go : Dec (a ≤ i) → cond (ltb i a) (held-chip (s .gains) (s .pairs) (s .cell .0) (s .sync) t u before start (q + i)) 𝟎 ≡ cond (ltb i a) (field-chip (view s) before start (q + i)) 𝟎
+    go (yes h) = rw (le-ltb i a h)
+    go (no h) =
+        let l = lt-of-not-le h in
+        let e : before + q + a ≤ data-chips (s .kind) = d (omega arith) in
+        rw (lt-ltb i a l) (held-is s before start (q + i) t-is u-is p (omega (arith, e)))

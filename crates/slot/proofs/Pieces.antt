@@ -4,11 +4,12 @@ use mathlib.Core.List.{List, _++_, append-assoc}
 use Prim.Native.Nat.{ℕ, _+_, _-_, _≤_, _<_}
 use native.Mathlib.Nat.{zero-add, le-refl}
 use native.Mathlib.Omega.{arith}
-use lib.ListN.{length, take, drop, length-append, length-drop}
+use lib.IntN.{ℤ, pos}
+use lib.ListN.{length, getD, take, drop, length-append, length-drop}
 use lib.Seq.{length-front, length-take-le, drop-at, drop-drop}
 use borrow.Rule.Slice.PartMut.{midOf, putMid, mid-len}
 use Rattle.complex.specs.Buffers.{listed, written}
-use Rattle.complex.proofs.Lists.{length-listed, listed-++, take-written, all-written, listed-cong}
+use Rattle.complex.proofs.Lists.{length-listed, listed-at, listed-++, take-written, all-written, listed-cong}
 
 -- what is lent of a buffer after its first a entries came back
 pub length-rest : {A : Type 0} (d ys : List A) (a : ℕ) → length ys ≡ length (take a d)
@@ -52,3 +53,13 @@ two-parts part f g h d ys zs a l p q r s =
     let n : length xs ≡ length d = ap length first ∙ length-written (λ i. part (f i)) d a l in
     filled (λ i. part (f i)) _ d (length d)
     (part-written (λ i. part (f i)) xs d zs (λ i. part (h i)) a (length xs - a) (length d) first (omega (arith, n)) (omega arith) r (λ i m. ap part (s i (omega (arith, n))))) refl
+
+-- The entries of sixteen, of one component, that `put` takes: from `from` on, and all of them.
+module _ {B : Type 0} (part : B → ℤ) (f : ℕ → B) {x : List ℤ} (e : x ≡ listed 16 (λ i. part (f i))) where
+  pub put-part : (n from : ℕ) {ys : List ℤ} → from + n ≤ 16 → ys ≡ listed n (λ i. getD x (from + i) (pos 0)) → ys ≡ listed n (λ i. part (f (from + i)))
+  put-part n from h q =
+      q ∙ listed-cong n _ _ (λ i l. ap (λ (x : List ℤ). getD x (from + i) (pos 0)) e ∙ listed-at (λ i. part (f i)) (pos 0) 16 (from + i) (omega arith))
+
+  pub put-all : (n : ℕ) {ys : List ℤ} → n ≡ 16 → ys ≡ listed n (λ i. getD x (0 + i) (pos 0)) → ys ≡ listed 16 (λ i. part (f i))
+  put-all n h q =
+      put-part n 0 (omega arith) q ∙ ap (λ (n : ℕ). listed n (λ i. part (f (0 + i)))) h ∙ listed-cong 16 _ _ (λ i l. ap (λ (k : ℕ). part (f k)) (zero-add i))

@@ -8,6 +8,7 @@ use lib.ListN.{getD}
 use Rattle.complex.specs.Buffers.{listed}
 use Rattle.codes.specs.Tree.{is-code, width}
 use Rattle.modulation.specs.Nodes.{node}
+use Rattle.codes.specs.declared.CellParameter.{CellParameter}
 use Rattle.slot.specs.declared.Settings.{Settings}
 use Rattle.slot.specs.declared.Sync.{Sync}
 use Rattle.slot.specs.Setup.{Channel, SyncSetup, Setup}
@@ -40,3 +41,7 @@ view-channel s Q k =
 
 unfoldable pub view : Settings → Setup
 view s = record { cell = s .cell .0; type = s .kind; channel = view-channel s; sync = view-sync (s .cell .0) (s .sync) }
+
+-- settings, from their fields
+abbrev pub settings-of : CellParameter → ℕ → List ℕ → List ℕ → Sync → Settings
+settings-of cell kind gains pairs sync = record { cell = cell; kind = kind; gains = gains; pairs = pairs; sync = sync }

@@ -5,6 +5,7 @@ ghost use Rattle.complex.specs.Fits.{Bound};
 ghost use Rattle.modulation.specs.Held.{block-of};
 ghost use Rattle.slot.specs.Slot.{sync-chip};
 ghost use Rattle.slot.specs.Tables.{view-sync};
+ghost use Rattle.slot.specs.Held.{falls-on};
 use crate::Sync;
 use codes::CellParameter;
 use codes::scrambling;
@@ -12,26 +13,31 @@ use modulation::Block;
 use modulation::burst as parts;
 use sync_codes::burst;
 
+// Whether a cell's burst falls on chip x of the slot.
+pub fn falls(cell: CellParameter, y: Sync, x: usize) -> bool
+    ensures { λ r. ⌜ r ≡ falls-on (cell .0) (view-sync (cell .0) y) x ⌝ }
+{
+    if y.on == 0 {
+        return false;
+    }
+    if 128 <= cell.0 {
+        return false;
+    }
+    let start = burst::start_of(scrambling::group_of(cell)) as usize;
+    start <= x && x < start + 256
+}
+
 // What a cell's burst adds to the sixteen chips of the slot from chip x on: bursts start at a multiple of 16.
 pub fn at(cell: CellParameter, y: Sync, x: usize) -> Block
     requires { ⌜ x % 16 ≡ 0 ⌝ }
     ensures chips { λ r. ⌜ r ≡ block-of (λ i. sync-chip (cell .0) (view-sync (cell .0) y) (x + i)) ⌝ }
     ensures size { λ r. ⌜ Bound 1000000 (r .re) × Bound 1000000 (r .im) ⌝ }
 {
-    if y.on == 0 {
-        return parts::silence();
-    }
-    if 128 <= cell.0 {
+    if !falls(cell, y, x) {
         return parts::silence();
     }
     let group = scrambling::group_of(cell);
     let start = burst::start_of(group) as usize;
-    if x < start {
-        return parts::silence();
-    }
-    if start + 256 <= x {
-        return parts::silence();
-    }
     parts::part(
         y.case,
         group,

@@ -3,20 +3,22 @@ ghost use mathlib.Core.Path.{_≡_};
 ghost use mathlib.Core.Bool.{cond};
 ghost use Prim.Native.Nat.{_+_, _-_, _%_, _<_, _≤_, min};
 ghost use lib.Dec.{ltb};
-ghost use lib.IntN.{pos};
+ghost use lib.IntN.{pos, _+ℤ_};
 ghost use lib.ListN.{getD, length};
-ghost use Rattle.complex.specs.Arithmetic.{_+j_, 𝟎, _⊕_, _⊗_};
+ghost use Rattle.complex.specs.Arithmetic.{𝟎, _⊕_};
 ghost use Rattle.complex.specs.Buffers.{listed, value};
 ghost use Rattle.complex.specs.Fits.{Bound};
-ghost use Rattle.modulation.specs.Symbols.{symbol};
-ghost use Rattle.slot.specs.Slot.{chip, data-chips, field-chip};
-ghost use Rattle.slot.specs.Tables.{view};
-ghost use Rattle.modulation.specs.Held.{block-of, spread};
-use crate::Settings;
+ghost use Rattle.modulation.specs.Held.{block-of, levels-of};
+ghost use Rattle.slot.specs.Slot.{chip, sync-chip};
+ghost use Rattle.slot.specs.Tables.{settings-of, view, view-sync};
+ghost use Rattle.slot.specs.Held.{block-chip, held-chip};
+use crate::Sync;
 use crate::burst;
 use crate::parts;
+use codes::CellParameter;
 use modulation::Block;
 use modulation::data;
+use modulation::data::OpenLevels;
 
 // The smaller of the two.
 pub fn smaller(a: usize, b: usize) -> usize
@@ -32,26 +34,26 @@ pub fn past(a: usize, b: usize) -> usize
     if a <= b { 0 } else { a - b }
 }
 
-// The sixteen chips whose pairs stand from `from` on, with the burst's chips b.
+// The sixteen chips, before the burst, whose pairs stand from `from` on; `tre` and `tim` are the scrambling code's turns.
 fn block<'a>(
     gains: &'a [u16; 31],
+    levels: OpenLevels,
     pairs: &'a [u8; 2208],
     from: usize,
-    wre: &'a [i32; 16],
-    wim: &'a [i32; 16],
-    b: Block,
+    tre: &'a [i32; 16],
+    tim: &'a [i32; 16],
 ) -> Block
-    requires { ⌜ (from + 16 ≤ 2208) × Bound 1 (now wre) × Bound 1 (now wim) × Bound 1000000 (b .re) × Bound 1000000 (b .im) ⌝ }
-    ensures { λ r. ⌜ r ≡ block-of (λ c. (spread (now (gains .entry)) (listed 16 (λ i. symbol (getD (now (pairs .entry)) (from + i) 0) .re)) c +j spread (now (gains .entry)) (listed 16 (λ i. symbol (getD (now (pairs .entry)) (from + i) 0) .im)) c) ⊗ value (now (wre .entry)) (now (wim .entry)) c ⊕ value (b .re) (b .im) c) ⌝ }
+    requires { ⌜ (from + 16 ≤ 2208) × (levels ≡ levels-of (now gains)) × Bound 2 (now tre) × Bound 2 (now tim) ⌝ }
+    ensures chips { λ r. ⌜ r ≡ block-of (block-chip (now (gains .entry)) (now (pairs .entry)) from (now (tre .entry)) (now (tim .entry))) ⌝ }
+    ensures size { λ r. ⌜ Bound 4063170 (r .re) × Bound 4063170 (r .im) ⌝ }
 {
-    let s = data::symbols(pairs, from);
-    let sre = s.re;
-    let sim = s.im;
-    let x = data::spread(gains, &sre);
-    let y = data::spread(gains, &sim);
-    let bre = b.re;
-    let bim = b.im;
-    data::scrambled(&x, &y, wre, wim, &bre, &bim)
+    let sre = data::symbols(pairs, from, true);
+    let sim = data::symbols(pairs, from, false);
+    let x = data::spread(gains, levels, &sre);
+    let y = data::spread(gains, levels, &sim);
+    let re = data::turned(tre, &y, &x);
+    let im = data::turned(tim, &x, &y);
+    Block { re: re, im: im }
 }
 
 // The entries of a block from `from` on, as many as the part of a buffer has.
@@ -64,16 +66,116 @@ fn put(part: &mut [i32], x: &[i32; 16], from: usize)
     }
 }
 
+// A whole block without burst, to parts of sixteen chips.
+fn write_whole<'a>(
+    gains: &'a [u16; 31],
+    levels: OpenLevels,
+    pairs: &'a [u8; 2208],
+    from: usize,
+    tre: &'a [i32; 16],
+    tim: &'a [i32; 16],
+    re: &mut [i32],
+    im: &mut [i32],
+)
+    requires { ⌜ (from + 16 ≤ 2208) × (levels ≡ levels-of (now gains)) × Bound 2 (now tre) × Bound 2 (now tim) × (length (now re) ≡ 16) × (length (now im) ≡ 16) ⌝ }
+    ensures real { λ r. ⌜ now (re .exit) ≡ listed 16 (λ i. block-chip (now (gains .entry)) (now (pairs .entry)) from (now (tre .entry)) (now (tim .entry)) i .re) ⌝ }
+    ensures imaginary { λ r. ⌜ now (im .exit) ≡ listed 16 (λ i. block-chip (now (gains .entry)) (now (pairs .entry)) from (now (tre .entry)) (now (tim .entry)) i .im) ⌝ }
+{
+    let c = block(gains, levels, pairs, from, tre, tim);
+    let cre = c.re;
+    let cim = c.im;
+    put(re, &cre, 0);
+    put(im, &cim, 0);
+}
+
+// The sums of the entries of two blocks' components.
+fn sums(x: &[i32; 16], y: &[i32; 16]) -> [i32; 16]
+    requires { ⌜ Bound 4063170 (now x) × Bound 1000000 (now y) ⌝ }
+    ensures { λ r. ⌜ r ≡ listed 16 (λ i. getD (now (x .entry)) i (pos 0) +ℤ getD (now (y .entry)) i (pos 0)) ⌝ }
+{
+    let mut z = [0i32; 16];
+    for i in 0..16 {
+        z[i] = x[i] + y[i];
+    }
+    z
+}
+
+// A block's chips from chip i on with the burst's chips b, as many as the parts have.
+fn write_part<'a>(
+    gains: &'a [u16; 31],
+    levels: OpenLevels,
+    pairs: &'a [u8; 2208],
+    from: usize,
+    tre: &'a [i32; 16],
+    tim: &'a [i32; 16],
+    b: Block,
+    i: usize,
+    re: &mut [i32],
+    im: &mut [i32],
+)
+    requires { ⌜ (from + 16 ≤ 2208) × (levels ≡ levels-of (now gains)) × Bound 2 (now tre) × Bound 2 (now tim) × (i + length (now re) ≤ 16) × (i + length (now im) ≤ 16) × Bound 1000000 (b .re) × Bound 1000000 (b .im) ⌝ }
+    ensures real { λ r. ⌜ now (re .exit) ≡ listed (length (now (re .entry))) (λ j. (block-chip (now (gains .entry)) (now (pairs .entry)) from (now (tre .entry)) (now (tim .entry)) (i + j) ⊕ value (b .re) (b .im) (i + j)) .re) ⌝ }
+    ensures imaginary { λ r. ⌜ now (im .exit) ≡ listed (length (now (im .entry))) (λ j. (block-chip (now (gains .entry)) (now (pairs .entry)) from (now (tre .entry)) (now (tim .entry)) (i + j) ⊕ value (b .re) (b .im) (i + j)) .im) ⌝ }
+{
+    let c = block(gains, levels, pairs, from, tre, tim);
+    let cre = c.re;
+    let cim = c.im;
+    let bre = b.re;
+    let bim = b.im;
+    let x = sums(&cre, &bre);
+    let y = sums(&cim, &bim);
+    put(re, &x, i);
+    put(im, &y, i);
+}
+
+// A block's chips from chip i on, as many as the parts have; its first chip is the slot's chip x. Most blocks are whole and have no burst:
+// they go straight to the buffers.
+fn write_block<'a>(
+    gains: &'a [u16; 31],
+    levels: OpenLevels,
+    pairs: &'a [u8; 2208],
+    from: usize,
+    cell: CellParameter,
+    sync: Sync,
+    x: usize,
+    tre: &'a [i32; 16],
+    tim: &'a [i32; 16],
+    i: usize,
+    re: &mut [i32],
+    im: &mut [i32],
+)
+    requires { ⌜ (from + 16 ≤ 2208) × (levels ≡ levels-of (now gains)) × Bound 2 (now tre) × Bound 2 (now tim) × (i + length (now re) ≤ 16) × (length (now im) ≡ length (now re)) × (x % 16 ≡ 0) × (x ≤ 5120) ⌝ }
+    ensures real { λ r. ⌜ now (re .exit) ≡ listed (length (now (re .entry))) (λ j. (block-chip (now (gains .entry)) (now (pairs .entry)) from (now (tre .entry)) (now (tim .entry)) (i + j) ⊕ sync-chip (cell .0) (view-sync (cell .0) sync) (x + (i + j))) .re) ⌝ }
+    ensures imaginary { λ r. ⌜ now (im .exit) ≡ listed (length (now (im .entry))) (λ j. (block-chip (now (gains .entry)) (now (pairs .entry)) from (now (tre .entry)) (now (tim .entry)) (i + j) ⊕ sync-chip (cell .0) (view-sync (cell .0) sync) (x + (i + j))) .im) ⌝ }
+{
+    if re.len() == 16 && im.len() == 16 && !burst::falls(cell, sync, x) {
+        write_whole(gains, levels, pairs, from, tre, tim, re, im);
+    } else {
+        let b = burst::at(cell, sync, x);
+        write_part(gains, levels, pairs, from, tre, tim, b, i, re, im);
+    }
+}
+
 // Chips of a field from its chip q on, to the part of the buffers that they fall in. `before` is how many chips the fields before it have,
 // `start` the slot's chip at which it starts.
-fn write_field(s: Settings, before: usize, start: usize, q: usize, re: &mut [i32], im: &mut [i32])
-    requires { ⌜ (length (now im) ≡ length (now re)) × (before % 16 ≡ 0) × (start % 16 ≡ 0) × (start ≤ 2560) × (0 < length (now re) → before + q + length (now re) ≤ data-chips (s .kind)) ⌝ }
-    ensures real { λ r. ⌜ now (re .exit) ≡ listed (length (now (re .entry))) (λ i. field-chip (view s) before start (q + i) .re) ⌝ }
-    ensures imaginary { λ r. ⌜ now (im .exit) ≡ listed (length (now (im .entry))) (λ i. field-chip (view s) before start (q + i) .im) ⌝ }
+fn write_field<'a>(
+    gains: &'a [u16; 31],
+    levels: OpenLevels,
+    pairs: &'a [u8; 2208],
+    cell: CellParameter,
+    sync: Sync,
+    tre: &'a [i32; 16],
+    tim: &'a [i32; 16],
+    before: usize,
+    start: usize,
+    q: usize,
+    re: &mut [i32],
+    im: &mut [i32],
+)
+    requires { ⌜ (levels ≡ levels-of (now gains)) × Bound 2 (now tre) × Bound 2 (now tim) × (length (now im) ≡ length (now re)) × (before % 16 ≡ 0) × (start % 16 ≡ 0) × (start ≤ 2560) × (0 < length (now re) → before + q + length (now re) ≤ 2208) ⌝ }
+    ensures real { λ r. ⌜ now (re .exit) ≡ listed (length (now (re .entry))) (λ i. held-chip (now (gains .entry)) (now (pairs .entry)) (cell .0) sync (now (tre .entry)) (now (tim .entry)) before start (q + i) .re) ⌝ }
+    ensures imaginary { λ r. ⌜ now (im .exit) ≡ listed (length (now (im .entry))) (λ i. held-chip (now (gains .entry)) (now (pairs .entry)) (cell .0) sync (now (tre .entry)) (now (tim .entry)) before start (q + i) .im) ⌝ }
 {
-    let w = data::scrambling_row(s.cell);
-    let wre = w.re;
-    let wim = w.im;
     let n = re.len();
     let mut done: usize = 0;
     while done < n {
@@ -81,12 +183,20 @@ fn write_field(s: Settings, before: usize, start: usize, q: usize, re: &mut [i32
         let i = from % 16;
         let first = from - i;
         let end = done + smaller(16 - i, n - done);
-        let b = burst::at(s.cell, s.sync, start + first);
-        let c = block(&s.gains, &s.pairs, before + first, &wre, &wim, b);
-        let cre = c.re;
-        let cim = c.im;
-        put(&mut re[done..end], &cre, i);
-        put(&mut im[done..end], &cim, i);
+        write_block(
+            gains,
+            levels,
+            pairs,
+            before + first,
+            cell,
+            sync,
+            start + first,
+            tre,
+            tim,
+            i,
+            &mut re[done..end],
+            &mut im[done..end],
+        );
         done = end;
     }
 }
@@ -101,8 +211,14 @@ fn write_silence(part: &mut [i32])
 }
 
 // A field and the midamble or the guard after it: the first `count` chips are the field's, from its chip q on, the others are 0.
-fn write_half(
-    s: Settings,
+fn write_half<'a>(
+    gains: &'a [u16; 31],
+    levels: OpenLevels,
+    pairs: &'a [u8; 2208],
+    cell: CellParameter,
+    sync: Sync,
+    tre: &'a [i32; 16],
+    tim: &'a [i32; 16],
     before: usize,
     start: usize,
     q: usize,
@@ -110,11 +226,24 @@ fn write_half(
     re: &mut [i32],
     im: &mut [i32],
 )
-    requires { ⌜ (length (now im) ≡ length (now re)) × (count ≤ length (now re)) × (before % 16 ≡ 0) × (start % 16 ≡ 0) × (start ≤ 2560) × (0 < count → before + q + count ≤ data-chips (s .kind)) ⌝ }
-    ensures real { λ r. ⌜ now (re .exit) ≡ listed (length (now (re .entry))) (λ i. cond (ltb i count) (field-chip (view s) before start (q + i)) 𝟎 .re) ⌝ }
-    ensures imaginary { λ r. ⌜ now (im .exit) ≡ listed (length (now (im .entry))) (λ i. cond (ltb i count) (field-chip (view s) before start (q + i)) 𝟎 .im) ⌝ }
+    requires { ⌜ (levels ≡ levels-of (now gains)) × Bound 2 (now tre) × Bound 2 (now tim) × (length (now im) ≡ length (now re)) × (count ≤ length (now re)) × (before % 16 ≡ 0) × (start % 16 ≡ 0) × (start ≤ 2560) × (0 < count → before + q + count ≤ 2208) ⌝ }
+    ensures real { λ r. ⌜ now (re .exit) ≡ listed (length (now (re .entry))) (λ i. cond (ltb i count) (held-chip (now (gains .entry)) (now (pairs .entry)) (cell .0) sync (now (tre .entry)) (now (tim .entry)) before start (q + i)) 𝟎 .re) ⌝ }
+    ensures imaginary { λ r. ⌜ now (im .exit) ≡ listed (length (now (im .entry))) (λ i. cond (ltb i count) (held-chip (now (gains .entry)) (now (pairs .entry)) (cell .0) sync (now (tre .entry)) (now (tim .entry)) before start (q + i)) 𝟎 .im) ⌝ }
 {
-    write_field(s, before, start, q, &mut re[..count], &mut im[..count]);
+    write_field(
+        gains,
+        levels,
+        pairs,
+        cell,
+        sync,
+        tre,
+        tim,
+        before,
+        start,
+        q,
+        &mut re[..count],
+        &mut im[..count],
+    );
     write_silence(&mut re[count..]);
     write_silence(&mut im[count..]);
 }
@@ -126,22 +255,55 @@ fn cut(end: usize, from: usize, n: usize) -> usize
     smaller(past(end, from), n)
 }
 
-// The chips of the slot from chip `from` on, as many as the buffers have, 0 past the slot's end: each of the slot's four parts is written
-// into its own part of the buffers.
-pub fn write(s: Settings, from: usize, re: &mut [i32], im: &mut [i32])
+// The chips of the slot of these settings from chip `from` on, as many as the buffers have, 0 past the slot's end: each of the slot's four
+// parts is written into its own part of the buffers. The tables are lent, for a copy of them takes as long as some of the blocks.
+pub fn write<'a>(
+    cell: CellParameter,
+    kind: u32,
+    gains: &'a [u16; 31],
+    pairs: &'a [u8; 2208],
+    sync: Sync,
+    from: usize,
+    re: &mut [i32],
+    im: &mut [i32],
+)
     requires { ⌜ length (now im) ≡ length (now re) ⌝ }
-    ensures real { λ r. ⌜ now (re .exit) ≡ listed (length (now (re .entry))) (λ i. chip (view s) (from + i) .re) ⌝ }
-    ensures imaginary { λ r. ⌜ now (im .exit) ≡ listed (length (now (im .entry))) (λ i. chip (view s) (from + i) .im) ⌝ }
+    ensures real { λ r. ⌜ now (re .exit) ≡ listed (length (now (re .entry))) (λ i. chip (view (settings-of cell kind (now (gains .entry)) (now (pairs .entry)) sync)) (from + i) .re) ⌝ }
+    ensures imaginary { λ r. ⌜ now (im .exit) ≡ listed (length (now (im .entry))) (λ i. chip (view (settings-of cell kind (now (gains .entry)) (now (pairs .entry)) sync)) (from + i) .im) ⌝ }
 {
-    let p = parts::parts_of(s.kind);
+    let t = data::turns(cell);
+    let tre = t.re;
+    let tim = t.im;
+    let levels = data::open_levels(gains);
+    let p = parts::parts_of(kind);
     let n = re.len();
     let second = p.field1 + p.midamble;
     let a = cut(p.field1, from, n);
     let b = cut(second, from, n);
     let c = cut(second + p.field2, from, n);
-    write_half(s, 0, 0, from, a, &mut re[..b], &mut im[..b]);
     write_half(
-        s,
+        gains,
+        levels,
+        pairs,
+        cell,
+        sync,
+        &tre,
+        &tim,
+        0,
+        0,
+        from,
+        a,
+        &mut re[..b],
+        &mut im[..b],
+    );
+    write_half(
+        gains,
+        levels,
+        pairs,
+        cell,
+        sync,
+        &tre,
+        &tim,
         p.field1,
         second,
         past(from, second),

@@ -10,7 +10,7 @@ ghost use Rattle.analyser.specs.Reading.{read-call};
 ghost use Rattle.analyser.specs.Hardening.{harden-call};
 ghost use Rattle.sync_analyser.specs.SyncReading.{read-sync-call};
 ghost use Rattle.sync_analyser.specs.Finding.{find-call, ScratchLeft};
-ghost use Rattle.bench.specs.BenchCalls.{close-call, clear-sync-call, draw-call, fresh, left-by, load-bits-call, load-plan-call, open-call, plan-left-by, set-cell-call, set-gain-call, set-sync-call, start-call, told-call};
+ghost use Rattle.bench.specs.BenchCalls.{close-call, clear-sync-call, draw-call, fresh, left-by, load-bits-call, load-plan-call, open-call, plan-left-by, set-cell-call, set-gain-call, set-sync-call, start-call, told-call, told-draw};
 ghost use Rattle.tdd_bench.specs.PlanResults.{place-of, plan-refusal-of};
 use analyser::HardenAnswer;
 use analyser::ReadAnswer;
@@ -179,6 +179,24 @@ pub extern "C" fn tdd_bench_start(bench: Bench) -> CallResult
     call_result(bench.start())
 }
 
+fn draw_refusal(answer: DrawAnswer) -> u32
+    ensures { λ r. ⌜ r ≡ refusal-of (told-draw answer) ⌝ }
+{
+    match answer {
+        DrawAnswer::Drew(_) => 0,
+        DrawAnswer::Refused(n) => n,
+    }
+}
+
+fn draw_count(answer: DrawAnswer) -> usize
+    ensures { λ r. ⌜ r ≡ after (told-draw answer) 0 (λ m. m) ⌝ }
+{
+    match answer {
+        DrawAnswer::Drew(count) => count,
+        DrawAnswer::Refused(_) => 0,
+    }
+}
+
 #[no_mangle]
 pub extern "C" fn tdd_bench_draw(bench: Bench, re: &mut [i32], im: &mut [i32]) -> DrawResult
     ensures refusal { λ r. ⌜ r .refusal ≡ refusal-of (draw-call bench (length (now (re .entry))) (length (now (im .entry)))) ⌝ }
@@ -190,17 +208,10 @@ pub extern "C" fn tdd_bench_draw(bench: Bench, re: &mut [i32], im: &mut [i32]) -
     let drawn = bench.draw(re, im);
     let next = drawn.bench;
     let answer = drawn.answer;
-    match answer {
-        DrawAnswer::Drew(count) => DrawResult {
-            refusal: 0,
-            count: count,
-            bench: next,
-        },
-        DrawAnswer::Refused(n) => DrawResult {
-            refusal: n,
-            count: 0,
-            bench: next,
-        },
+    DrawResult {
+        refusal: draw_refusal(answer),
+        count: draw_count(answer),
+        bench: next,
     }
 }
 

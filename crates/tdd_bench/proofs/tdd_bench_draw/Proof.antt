@@ -1,39 +1,28 @@
 -- `tdd_bench_draw` meets its contract: draw's own. Assumes nothing.
-use mathlib.Core.Path.{sym, ap, _∙_}
+use mathlib.Core.Path.{_∙_}
 use denote.Ref.{now}
 use lib.ListN.{length}
 use borrow.Author.Needs.{needs}
-use Rattle.bench.specs.BenchCalls.{draw-call, told-draw}
+use Rattle.bench.specs.BenchCalls.{draw-call}
 use Rattle.tdd_bench.proofs.Results.{told-count}
 use Rattle.tdd_bench.proofs.tdd_bench_draw.Statement.{statement}
 use Rattle.tdd_bench.proofs.tdd_bench_draw.Tie as tie
 
 returns : tie.Need-returns
 returns c =
-    let d = c .before .before .before .before .before .before in
+    let d = c .before .before .before .before .before in
     let s = d .before .before .before .args in
     let e = d .draw .ensures in
-    let t = told-count (draw-call (s .bench) (length (now (s .re))) (length (now (s .im)))) (sym (ap told-draw (c .before .answer .given .1)) ∙ e .0) in
-    (t .0, (t .1, e .1))
-
-returns-2 : tie.Need-returns-2
-returns-2 c =
-    let d = c .before .before .before .before .before .before in
-    let s = d .before .before .before .args in
-    let e = d .draw .ensures in
-    let t = told-count (draw-call (s .bench) (length (now (s .re))) (length (now (s .im)))) (sym (ap told-draw (c .before .answer2 .given .1)) ∙ e .0) in
-    (t .0, (t .1, e .1))
+    let t = told-count (draw-call (s .bench) (length (now (s .re))) (length (now (s .im)))) (e .0) in
+    (c .before .draw-refusal .ensures ∙ t .0, (c .draw-count .ensures ∙ t .1, e .1))
 
 pub tdd-bench-draw-spec : {M : Type 1} → statement M
 tdd-bench-draw-spec =
     tie.close
     (tie.spec
     (λ c κs. search needs)
+    (λ c κs. search needs)
+    (λ c κs. search needs)
     (λ c. search needs)
     (λ c. search needs)
-    (λ c. search needs)
-    (λ c. search needs)
-    returns
-    (λ c. search needs)
-    (λ c. search needs)
-    returns-2)
+    returns)

@@ -1,15 +1,24 @@
 -- `draw` meets its contract: a refusal, or the next chips. Assumes nothing.
 use mathlib.Core.Path.{_≡_, refl, sym, ap, _∙_}
-use mathlib.Core.List.{List, _++_}
-use Prim.Native.Nat.{ℕ, _-_, min}
+use mathlib.Core.Bool.{Bool, true, false, not, cond}
+use mathlib.Core.List.{List, [], _∷_, _++_}
+use mathlib.Core.Logic.{⊎-elim, _≢_}
+use Prim.Native.Nat.{ℕ, suc, _+_, _-_, min}
 use native.Mathlib.Omega.{arith}
 use borrow.Author.Needs.{needs}
-use borrow.Author.Tests.{eq-eqb, ne-eqb}
+use borrow.Author.Tests.{eq-eqb, ne-eqb, eqb-true}
+use lib.Dec.{eqb}
 use lib.IntN.{ℤ}
 use lib.ListN.{length, take, drop}
-use lib.Seq.{length-take-le}
-use Rattle.complex.specs.Buffers.{listed, written}
+use lib.Seq.{length-front, length-take-le}
+use Rattle.complex.specs.Buffers.{listed, written, in-buffers}
+use Rattle.slot.specs.Slot.{chip}
+use Rattle.slot.specs.Tables.{view}
 use Rattle.complex.proofs.Lists.{length-listed}
+use Rattle.codes.specs.Refusals.{Answer, gives, refused, after, number, _if_}
+use Rattle.codes.proofs.Refused.{numbered, accepted, not-accepted}
+use Rattle.bench.specs.declared.Bench.{Bench}
+use Rattle.bench.specs.BenchCalls.{Draw, draw-refusals, moved-on, draw-call, counted}
 use Rattle.bench.proofs.Bench.draw.Statement.{statement}
 use Rattle.bench.proofs.Bench.draw.Tie as tie
 
@@ -18,91 +27,127 @@ written-prefix : (f : ℕ → ℤ) (n : ℕ) (d : List ℤ) {new : List ℤ} →
     → new ++ drop n d ≡ written (listed n f) d
 written-prefix f n d l e = rw (e, l, length-listed f n)
 
+-- the number that the tests found is the refusals'
+tests : (b : Bench) (n m : ℕ) {r : ℕ} → r ≡ cond (eqb (b .running) 0) 11 (cond (eqb n m) 0 12) → r ≡ number (draw-refusals b n m)
+tests b n m e = e ∙ go (eqb (b .running) 0) (eqb n m)
+  where
+    go : (s t : Bool) → cond s 11 (cond t 0 12) ≡ number (11 if not (not s) ∷ 12 if not t ∷ [])
+    go true t = refl
+    go false true = refl
+    go false false = refl
+
+positive : {n : ℕ} → suc n ≡ 0 → ⊥
+positive e = omega arith
+
+-- where it is 0, the lengths are the same
+same-lengths : (x n m : ℕ) {r : ℕ} → r ≡ cond (eqb x 0) 11 (cond (eqb n m) 0 12) → r ≡ 0 → n ≡ m
+same-lengths x n m {r} e z = eqb-true n m (go (eqb x 0) (eqb n m) (sym e ∙ z))
+  where
+    go : (s t : Bool) → _≡_ {A = ℕ} (cond s 11 (cond t 0 12)) 0 → t ≡ true
+    go true t e = absurd (positive e)
+    go false true e = refl
+    go false false e = absurd (positive e)
+
+-- the call's answer, where the tests found a number and where they found none
+module _ (b : Bench) (n m : ℕ) {r : ℕ} (e : r ≡ number (draw-refusals b n m)) where
+  abbrev told : Answer Draw
+  told = draw-call b n m
+
+  not-drawn : r ≢ 0 → told ≡ refused r
+  not-drawn d = not-accepted _ (draw-refusals b n m) (λ z. d (e ∙ z)) ∙ ap refused (sym e)
+
+  drawn : (k : ℕ) → k ≡ min n (2560 - b .position) → r ≡ 0
+      → told ≡ gives (record { count = k; chips = in-buffers k (λ i. chip (view (b .sending)) (b .position + i)); bench = moved-on b k })
+  unfolding numbered
+  drawn k q z =
+      accepted _ (draw-refusals b n m) tt (sym e ∙ z)
+      ∙ ap (λ (k : ℕ). gives (record { count = k; chips = in-buffers k (λ i. chip (view (b .sending)) (b .position + i)); bench = moved-on b k })) (sym q)
+
 -- how many chips are written
-count : (c : tie.After-smaller) → let s = c .before .before .before .before .before .before .args in
-    c .smaller .result ≡ min (length (s .re .now)) (2560 - s .self .position)
+count : (c : tie.After-smaller) → let s = c .before .before .before .before .args in c .smaller .result ≡ min (length (s .re .now)) (2560 - s .t1 .position)
 count c = c .smaller .ensures ∙ ap (min _) (c .before .past .ensures)
 
 -- both buffers have room for them
-room : (c : tie.After-smaller) → let s = c .before .before .before .before .before .before .args in
-    let n = c .smaller .result in (length (take n (s .re .now)) ≡ n) × (length (take n (s .im .now)) ≡ n)
-room c = (length-take-le _ _ (omega (arith, count c)), length-take-le _ _ (omega (arith, count c)))
-
-returns : tie.Need-returns
-returns c = rw (eq-eqb (c .before .before .args .self .running) 0 (c .if1 .taken)) (refl, (refl, (refl, refl)))
-
-returns-2 : tie.Need-returns-2
-returns-2 c =
-    let e = c .before in
-    let s = e .before .before .args in
-    rw (ne-eqb (s .self .running) 0 (e .if1 .left), ne-eqb (length (s .re .now)) (length (s .im .now)) (c .if2 .taken)) (refl, (refl, (refl, refl)))
-
-past-requires : tie.Need-past-requires
-past-requires c κs = search needs
-
-smaller-requires : tie.Need-smaller-requires
-smaller-requires c κs = search needs
-
-slice-relend-prefix-write : tie.Need-slice-relend-prefix-write
-slice-relend-prefix-write c = search needs
+room : (c : tie.After-smaller) → let s = c .before .before .before .before .args in let n = c .smaller .result in (length (take n (s .re .now)) ≡ n) × (length (take n (s .im .now)) ≡ n)
+room c =
+    let s = c .before .before .before .before .args in
+    let e = same-lengths (s .t1 .running) (length (s .re .now)) (length (s .im .now)) (c .before .before .before .draw .ensures) (c .before .before .if1 .taken) in
+    (length-take-le _ _ (omega (arith, count c)), length-take-le _ _ (omega (arith, e, count c)))
 
 slice-aggregate-write : tie.Need-slice-aggregate-write
-slice-aggregate-write c = sym (room (c .before) .0)
+slice-aggregate-write c = sym (room (c .before .before .before .before .before .before) .0)
 
 slice-relend-prefix-write-2 : tie.Need-slice-relend-prefix-write-2
-slice-relend-prefix-write-2 c = search needs
+slice-relend-prefix-write-2 c =
+    let r = c .before .before .before .before .before .before in
+    let s = r .before .before .before .before .args in
+    let e = same-lengths (s .t1 .running) (length (s .re .now)) (length (s .im .now)) (r .before .before .before .draw .ensures) (r .before .before .if1 .taken) in
+    omega (arith, e, count r)
 
 slice-aggregate-write-2 : tie.Need-slice-aggregate-write-2
-slice-aggregate-write-2 c = sym (room (c .before .before) .1)
+slice-aggregate-write-2 c = sym (room (c .before .before .before .before .before .before .before) .1)
 
 write-requires : tie.Need-write-requires
-write-requires c κs =
-    let n = c .before .before in
-    room n .1 ∙ sym (room n .0)
+write-requires c κs = let r = room (c .before .before .before .before .before .before .before) in r .1 ∙ sym (r .0)
 
-add-self : tie.Need-add-self
-add-self c = search needs
-
-add-running-at : tie.Need-add-running-at
-add-running-at c = search needs
-
-running-at-requires : tie.Need-running-at-requires
-running-at-requires c κs = search needs
+returns : tie.Need-returns
+returns c =
+    let j = c .before in
+    let d = j .before in
+    let s = d .before .args in
+    let b = s .t1 in
+    let n = length (s .re .now) in
+    let m = length (s .im .now) in
+    let t = tests b n m (d .draw .ensures) in
+    ⊎-elim
+    (λ w.
+    let k = w .2 .result in
+    let q : k ≡ min n (2560 - b .position) = w .2 .ensures ∙ ap (min n) (w .1 .ensures) in
+    let same : n ≡ m = same-lengths (b .running) n m (d .draw .ensures) (w .0 .taken) in
+    let e = drawn b n m t k q (w .0 .taken) in (
+      c .draw-answer .ensures ∙ rw (eq-eqb _ _ (w .0 .taken)) (ap gives (w .17) ∙ sym (ap counted e)),
+      (
+        w .16 ∙ (λ j. record { settings = b .settings; running = w .13 .ensures j; sending = b .sending; position = b .position + k }) ∙ sym (ap (λ a. after a b (λ d. d .bench)) e),
+        (
+          w .14 ∙ written-prefix _ k (s .re .now) (length-take-le _ _ (omega (arith, q))) (w .10 .ensures .0) ∙ sym (ap (λ a. after a (s .re .now) (λ d. written (d .chips .re) (s .re .now))) e),
+          w .15 ∙ written-prefix _ k (s .im .now) (length-take-le _ _ (omega (arith, q, same))) (w .10 .ensures .1) ∙ sym (ap (λ a. after a (s .im .now) (λ d. written (d .chips .im) (s .im .now))) e),
+        ),
+      ),
+    ))
+    (λ w.
+    let e = not-drawn b n m t (w .0 .left) in (
+      c .draw-answer .ensures ∙ rw (ne-eqb _ _ (w .0 .left)) (sym (ap counted e)),
+      (
+        w .3 ∙ sym (ap (λ a. after a b (λ d. d .bench)) e),
+        (w .1 ∙ sym (ap (λ a. after a (s .re .now) (λ d. written (d .chips .re) (s .re .now))) e), w .2 ∙ sym (ap (λ a. after a (s .im .now) (λ d. written (d .chips .im) (s .im .now))) e)),
+      ),
+    ))
+    (j .if1 .came)
 
 same-length : tie.Need-same-length
-same-length c = search needs
+same-length c =
+    ⊎-elim (λ w. ap length (w .14) ∙ length-front (c .before .before .before .args .re .now) (w .10 .last .1 .1 .1 .1 .1 .1 .0) (w .2 .result) (w .10 .kept .1 .1 .1 .1 .1 .1 .0)) (λ w. ap length (w .1)) (c .before .if1 .came)
 
 same-length-2 : tie.Need-same-length-2
-same-length-2 c = search needs
-
-returns-3 : tie.Need-returns-3
-returns-3 c =
-    let a = c .before .before .before .before .before .before in
-    let n = a .smaller .result in
-    let e = a .before .before .before .before in
-    let s = e .before .before .args in
-    let w = c .before .before .before .write .ensures in
-    rw (ne-eqb (s .self .running) 0 (e .if1 .left), eq-eqb (length (s .re .now)) (length (s .im .now)) (omega arith), ← count a) (
-      refl,
-      (rw (c .running-at .ensures), (written-prefix _ n (s .re .now) (room a .0) (w .0), written-prefix _ n (s .im .now) (room a .1) (w .1))),
-    )
+same-length-2 c =
+    ⊎-elim (λ w. ap length (w .15) ∙ length-front (c .before .before .before .args .im .now) (w .10 .last .1 .1 .1 .1 .1 .1 .1 .0) (w .2 .result) (w .10 .kept .1 .1 .1 .1 .1 .1 .1 .0)) (λ w. ap length (w .2)) (c .before .if1 .came)
 
 pub draw-spec : {M : Type 1} → statement M
 draw-spec =
     tie.close
     (tie.spec
-    returns
-    returns-2
-    past-requires
-    smaller-requires
-    slice-relend-prefix-write
+    (λ c κs. search needs)
+    (λ c κs. search needs)
+    (λ c κs. search needs)
+    (λ c. search needs)
     slice-aggregate-write
     slice-relend-prefix-write-2
     slice-aggregate-write-2
     write-requires
-    add-self
-    add-running-at
-    running-at-requires
+    (λ c. search needs)
+    (λ c. search needs)
+    (λ c κs. search needs)
+    (λ c κs. search needs)
     same-length
     same-length-2
-    returns-3)
+    returns)

@@ -1,63 +1,37 @@
--- `raised` meets its contract: each factor's arm takes the entries that the definition takes. Assumes nothing.
-use mathlib.Core.Path.{_≡_}
-use Prim.Native.Nat.{_+_, _*_, _/_, _%_}
+-- `raised` meets its contract: the loop fills the array. Assumes nothing.
+use Prim.Native.Nat.{_-_}
 use native.Mathlib.Omega.{arith}
 use borrow.Author.Needs.{needs}
-use mir.Syntax.{w32}
-use mir.Val.{SFits}
-use mir.Facts.{toZ-ofZ}
 use Rattle.modulation.specs.Held.{raised}
-use Rattle.codes.proofs.Factors.{last-factor}
+use Rattle.modulation.proofs.Blocks.{Row, row-none, row-more, row-all}
 use Rattle.modulation.proofs.data.raised.Statement.{statement}
 use Rattle.modulation.proofs.data.raised.Tie as tie
 
-returns : tie.Need-returns
-unfolding raised
-returns c =
-    let i = c .before .before .args .i in
-    let e : i / 16 * 16 + i % 16 / 2 ≡ i / 2 = omega arith in
-    let f : SFits w32 (c .sum-or-difference .result) = search needs in
-    rw (c .before .match .keys1, e, toZ-ofZ f) (c .sum-or-difference .ensures)
+abbrev Inv-loop : tie.InvT-loop
+Inv-loop x q y₀ i₀ y i = Row (raised x q) y i
 
-returns-2 : tie.Need-returns-2
-unfolding raised
-returns-2 c =
-    let f : SFits w32 (c .sum-or-difference2 .result) = search needs in
-    rw (c .before .match .keys2, toZ-ofZ f) (c .sum-or-difference2 .ensures)
+abbrev μ-loop : tie.MeasureT-loop
+μ-loop x q y₀ i₀ y i = 16 - i
 
-returns-3 : tie.Need-returns-3
-unfolding raised
-returns-3 c =
-    let f : SFits w32 (c .sum-or-difference3 .result) = search needs in
-    rw (c .before .match .keys3, toZ-ofZ f) (c .sum-or-difference3 .ensures)
+raised-entry-requires : tie.Need-raised-entry-requires Inv-loop μ-loop
+raised-entry-requires c κs = let p = c .before .before .pre in (p .0, omega arith, p .1)
 
-returns-4 : tie.Need-returns-4
-unfolding raised
-returns-4 c =
-    let i = c .before .before .args .i in
-    let e : i / 2 * 2 + i % 2 / 2 ≡ i / 2 * 2 = omega arith in
-    let f : SFits w32 (c .sum-or-difference4 .result) = search needs in
-    rw (c .before .match .keys4, e, toZ-ofZ f) (c .sum-or-difference4 .ensures)
-
-returns-5 : tie.Need-returns-5
-unfolding raised
-returns-5 c = rw (last-factor _ (c .before .pre .0) (c .match .rest))
+loop-again : tie.Need-loop-again Inv-loop μ-loop
+loop-again c =
+    let r = c .raised-entry in
+    row-more (c .before .before .loop .inv) (omega arith) (search needs) (r .ensures)
 
 pub raised-spec : {M : Type 1} → statement M
 raised-spec =
     tie.close
     (tie.spec
-    (λ c κs. search needs)
-    (λ c. search needs)
-    (λ c. search needs)
-    (λ c κs. search needs)
-    (λ c. search needs)
-    (λ c. search needs)
-    (λ c κs. search needs)
-    (λ c. search needs)
-    (λ c κs. search needs)
-    returns
-    returns-2
-    returns-3
-    returns-4
-    returns-5)
+    Inv-loop
+    μ-loop
+    (λ c. row-none)
+    raised-entry-requires
+    (λ c. omega arith)
+    (λ c. omega arith)
+    (λ c. omega arith)
+    (λ c. omega arith)
+    loop-again
+    (λ c. row-all (c .before .loop .inv) (omega arith)))

@@ -1,8 +1,9 @@
 -- `spread` meets its contract: five levels, each at most twice as large as the one before and a gain. Assumes nothing.
-use mathlib.Core.Path.{refl}
+use mathlib.Core.Path.{refl, ap}
 use native.Mathlib.Omega.{arith}
 use Rattle.complex.specs.Fits.{Bound}
 use Rattle.complex.proofs.Bounds.{bound-more, bound-zeros}
+use Rattle.modulation.specs.declared.data.OpenLevels.{OpenLevels}
 use Rattle.modulation.proofs.Climbing.{climbed-all}
 use Rattle.modulation.proofs.data.spread.Statement.{statement}
 use Rattle.modulation.proofs.data.spread.Tie as tie
@@ -20,19 +21,19 @@ size-2 : (c : tie.After-climbed4) → Bound 983025 (c .climbed4 .result)
 size-2 c = c .climbed4 .ensures .1 458745 (omega arith) (size-4 (c .before .before))
 
 climbed-requires : tie.Need-climbed-requires
-climbed-requires c κs = (refl, c .before .pre, bound-zeros 983025)
+climbed-requires c κs = let p = c .before .pre in (refl, ap (λ (l : OpenLevels). l .q16) (p .0), p .1, bound-zeros 983025)
 
 climbed-requires-2 : tie.Need-climbed-requires-2
-climbed-requires-2 c κs = (refl, c .before .before .before .pre, bound-more (size-16 (c .before)) 983025 (omega arith))
+climbed-requires-2 c κs = let p = c .before .before .before .pre in (refl, ap (λ (l : OpenLevels). l .q8) (p .0), p .1, bound-more (size-16 (c .before)) 983025 (omega arith))
 
 climbed-requires-3 : tie.Need-climbed-requires-3
-climbed-requires-3 c κs = (refl, c .before .before .before .before .before .pre, bound-more (size-8 (c .before)) 983025 (omega arith))
+climbed-requires-3 c κs = let p = c .before .before .before .before .before .pre in (refl, ap (λ (l : OpenLevels). l .q4) (p .0), p .1, bound-more (size-8 (c .before)) 983025 (omega arith))
 
 climbed-requires-4 : tie.Need-climbed-requires-4
-climbed-requires-4 c κs = (refl, c .before .before .before .before .before .before .before .pre, bound-more (size-4 (c .before)) 983025 (omega arith))
+climbed-requires-4 c κs = let p = c .before .before .before .before .before .before .before .pre in (refl, ap (λ (l : OpenLevels). l .q2) (p .0), p .1, bound-more (size-4 (c .before)) 983025 (omega arith))
 
 climbed-requires-5 : tie.Need-climbed-requires-5
-climbed-requires-5 c κs = (refl, c .before .before .before .before .before .before .before .before .before .pre, size-2 (c .before))
+climbed-requires-5 c κs = let p = c .before .before .before .before .before .before .before .before .before .pre in (refl, ap (λ (l : OpenLevels). l .q1) (p .0), p .1, size-2 (c .before))
 
 returns : tie.Need-returns
 returns c =

@@ -1,31 +1,45 @@
 -- `block` meets its contract: each callee's answer goes into the next one's. Assumes nothing.
+use mathlib.Core.Path.{_≡_, ap, ap₂, _∙_}
+use mathlib.Core.Bool.{true, false}
+use mathlib.Core.List.{List}
 use borrow.Author.Needs.{needs}
-use Rattle.modulation.specs.Held.{spread}
-use Rattle.slot.proofs.FieldBlocks.{spread-is}
-use Rattle.modulation.proofs.Blocks.{block-bound, symbol-both}
+use lib.IntN.{ℤ}
+use Rattle.complex.specs.Buffers.{listed}
+use Rattle.modulation.specs.Held.{spread, turned}
+use Rattle.modulation.proofs.Blocks.{symbols-bound}
+use Rattle.modulation.proofs.Turns.{turned-bound}
+use Rattle.slot.specs.Held.{spread-row}
 use Rattle.slot.proofs.field.block.Statement.{statement}
 use Rattle.slot.proofs.field.block.Tie as tie
 
-symbols-requires : tie.Need-symbols-requires
-symbols-requires c κs = search needs
-
 spread-requires : tie.Need-spread-requires
-spread-requires c κs = block-bound {k = 1} _ (c .before .before .before .symbols .ensures) (λ i. symbol-both _) .0
+spread-requires c κs = (c .before .before .before .pre .1, symbols-bound _ true (c .before .before .symbols .ensures))
 
 spread-requires-2 : tie.Need-spread-requires-2
-spread-requires-2 c κs = block-bound {k = 1} _ (c .before .before .before .before .before .symbols .ensures) (λ i. symbol-both _) .1
-
-scrambled-requires : tie.Need-scrambled-requires
-scrambled-requires c κs = search needs
+spread-requires-2 c κs = (c .before .before .before .before .before .pre .1, symbols-bound _ false (c .before .before .before .symbols2 .ensures))
 
 returns : tie.Need-returns
 returns c =
-    let s = c .before .before .before .before .before .before .before .before .before .before .before .before .before .symbols in
-    let x = c .before .before .before .before .before .before .before .before .before .spread in
-    let y = c .before .before .before .before .before .before .before .spread2 in
-    spread-is _ _ _ _ _ _ _ _ (s .ensures) (x .ensures .0) (y .ensures .0) (c .scrambled .ensures)
+    let a = c .before .before .before .before .before .before .before .before .before .before .before .before .args in
+    let x = c .before .before .before .before .before .before .before .before .spread .ensures in
+    let y = c .before .before .before .before .before .before .spread2 .ensures in
+    let t = c .before .before .before .turned .ensures in
+    let u = c .turned2 .ensures in
+    let p = c .before .before .before .before .before .before .before .before .before .before .before .before .pre in
+    let x-is : _ ≡ spread-row (a .gains .now) (a .pairs .now) (a .from) true = x .0 ∙ ap (λ (s : List ℤ). listed 16 (spread (a .gains .now) s)) (c .before .before .before .before .before .before .before .before .before .before .before .symbols .ensures) in
+    let y-is : _ ≡ spread-row (a .gains .now) (a .pairs .now) (a .from) false = y .0 ∙ ap (λ (s : List ℤ). listed 16 (spread (a .gains .now) s)) (c .before .before .before .before .before .before .before .before .before .before .symbols2 .ensures) in (
+      λ j. record { re = (t ∙ ap₂ (λ (y x : List ℤ). listed 16 (turned (a .tre .now) y x)) y-is x-is) j; im = (u ∙ ap₂ (λ (x y : List ℤ). listed 16 (turned (a .tim .now) x y)) x-is y-is) j },
+      (turned-bound (p .2) (y .1) (x .1) t, turned-bound (p .3) (x .1) (y .1) u),
+    )
 
 pub block-spec : {M : Type 1} → statement M
 block-spec =
     tie.close
-    (tie.spec symbols-requires spread-requires spread-requires-2 scrambled-requires returns)
+    (tie.spec
+    (λ c κs. search needs)
+    (λ c κs. search needs)
+    spread-requires
+    spread-requires-2
+    (λ c κs. search needs)
+    (λ c κs. search needs)
+    returns)

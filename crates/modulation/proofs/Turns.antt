@@ -1,0 +1,93 @@
+-- The scrambling code's elements are imaginary at even places and real at odd ones: a product with one by two single products. Assumes nothing.
+use mathlib.Core.Path.{_≡_, ap, _∙_, refl}
+use mathlib.Core.Bool.{Bool, true, false, cond}
+use mathlib.Core.List.{List}
+use Prim.Native.Nat.{ℕ, _+_, _*_, _%_, _<_}
+use native.Mathlib.Decide.{ℕ-discrete}
+use native.Mathlib.Omega.{arith}
+use borrow.Author.Tests.{eq-eqb, ne-eqb}
+use lib.Dec.{eqb, lit≤}
+use lib.IntN.{ℤ, pos, _+ℤ_, _-ℤ_, _*ℤ_, zero-*ℤ, *ℤ-zero}
+use lib.ListN.{getD}
+use Rattle.complex.specs.declared.Complex.{Complex}
+use Rattle.complex.specs.Arithmetic.{_+j_, real, _⊗_, j^}
+use Rattle.complex.specs.Buffers.{listed, value}
+use Rattle.complex.proofs.Integers.{ring}
+use Rattle.complex.proofs.Lists.{listed-at}
+use Rattle.complex.proofs.Ring.{by-components}
+use Rattle.complex.proofs.Rotations.{rotate-0, rotate-1, rotate-2, rotate-3}
+use Rattle.codes.specs.Scrambling.{v, scrambling}
+use Rattle.complex.specs.Fits.{Within, Both, Bound}
+use Rattle.complex.proofs.Bounds.{bound-listed}
+use Rattle.complex.proofs.Components.{both-⊗}
+use Rattle.complex.proofs.Sizes.{within-mul}
+use Rattle.codes.proofs.Rows.{scrambling-both}
+use Rattle.modulation.specs.declared.Block.{Block}
+use Rattle.modulation.specs.Held.{block-of, turn-at, turned}
+use Rattle.modulation.proofs.Blocks.{block-bound}
+
+-- the size of 1 + j
+pub one-plus-j : Both 1 (pos 1 +j pos 1)
+one-plus-j = record { re = record { size = lit≤ tt }; im = record { size = lit≤ tt } }
+
+-- a product of four terms, two of which are 0 on the left and one on the right
+one-term : (x y b : ℤ) → ((pos 0 *ℤ pos 1 -ℤ b *ℤ pos 1) *ℤ y ≡ x *ℤ pos 0 -ℤ y *ℤ b) × ((pos 0 *ℤ pos 1 +ℤ b *ℤ pos 1) *ℤ x ≡ x *ℤ b +ℤ y *ℤ pos 0)
+    × ((b *ℤ pos 1 -ℤ pos 0 *ℤ pos 1) *ℤ x ≡ x *ℤ b -ℤ y *ℤ pos 0) × ((b *ℤ pos 1 +ℤ pos 0 *ℤ pos 1) *ℤ y ≡ x *ℤ pos 0 +ℤ y *ℤ b)
+one-term x y b = (simp (ring, zero-*ℤ, *ℤ-zero), simp (ring, zero-*ℤ, *ℤ-zero), simp (ring, zero-*ℤ, *ℤ-zero), simp (ring, zero-*ℤ, *ℤ-zero))
+
+-- w (1 + j) on the components of x + y j: for an imaginary w, and for a real one
+module _ (x y : ℤ) (w : Complex) where
+  imaginary : w .re ≡ pos 0 → let t = w ⊗ (pos 1 +j pos 1) in t .re *ℤ y +j t .im *ℤ x ≡ (x +j y) ⊗ w
+  unfolding _⊗_
+  imaginary e = by-components (rw e (one-term x y (w .im) .0)) (rw e (one-term x y (w .im) .1))
+
+  purely-real : w .im ≡ pos 0 → let t = w ⊗ (pos 1 +j pos 1) in t .re *ℤ x +j t .im *ℤ y ≡ (x +j y) ⊗ w
+  unfolding _⊗_
+  purely-real e = by-components (rw e (one-term x y (w .re) .2)) (rw e (one-term x y (w .re) .3))
+
+-- element i + 1 is vᵢ₊₁ times j or -j for an even i, times 1 or -1 for an odd one
+module _ (p i : ℕ) where
+  abbrev w : Complex
+  w = scrambling p (i + 1)
+
+  even-place : i % 2 ≡ 0 → w .re ≡ pos 0
+  unfolding scrambling real
+  even-place e = go (ℕ-discrete ((i + 1) % 4) 1)
+    where
+      go : Dec ((i + 1) % 4 ≡ 1) → w .re ≡ pos 0
+      go (yes h) = ap (λ (z : Complex). z .re) (rotate-1 _ _ h)
+      go (no h) = ap (λ (z : Complex). z .re) (rotate-3 _ _ (omega arith))
+
+  odd-place : i % 2 ≡ 1 → w .im ≡ pos 0
+  unfolding scrambling real
+  odd-place e = go (ℕ-discrete ((i + 1) % 4) 0)
+    where
+      go : Dec ((i + 1) % 4 ≡ 0) → w .im ≡ pos 0
+      go (yes h) = ap (λ (z : Complex). z .im) (rotate-0 _ _ h)
+      go (no h) = ap (λ (z : Complex). z .im) (rotate-2 _ _ (omega arith))
+
+-- so the turned components are those of the product
+module _ (p : ℕ) (x y : List ℤ) (i : ℕ) where
+  abbrev by-parity : Bool → Complex
+  by-parity even =
+      turn-at p i .re *ℤ cond even (getD y i (pos 0)) (getD x i (pos 0))
+      +j turn-at p i .im *ℤ cond even (getD x i (pos 0)) (getD y i (pos 0))
+
+  pub turned-chip : i < 16
+      → turned (listed 16 (λ i. turn-at p i .re)) y x i +j turned (listed 16 (λ i. turn-at p i .im)) x y i ≡ value x y i ⊗ scrambling p (i + 1)
+  turned-chip l = rw (listed-at (λ i. turn-at p i .re) (pos 0) 16 i l, listed-at (λ i. turn-at p i .im) (pos 0) 16 i l) (pick (ℕ-discrete (i % 2) 0))
+    where
+      pick : Dec (i % 2 ≡ 0) → by-parity (eqb (i % 2) 0) ≡ value x y i ⊗ scrambling p (i + 1)
+      pick (yes e) = rw (eq-eqb _ _ e) (imaginary _ _ (w p i) (even-place p i e))
+      pick (no e) = rw (ne-eqb _ _ e) (purely-real _ _ (w p i) (odd-place p i (omega arith)))
+
+-- and a turn is at most 2 in size
+pub turn-bound : (p : ℕ) {r : Block} → r ≡ block-of (turn-at p) → Bound 2 (r .re) × Bound 2 (r .im)
+turn-bound p e = block-bound (turn-at p) e (λ i. both-⊗ (scrambling-both p i) one-plus-j)
+
+pub turned-bound : {k : ℕ} {t even odd r : List ℤ} → Bound 2 t → Bound k even → Bound k odd → r ≡ listed 16 (turned t even odd) → Bound (2 * k) r
+turned-bound {k} {even = even} {odd} f g h e = rw e (bound-listed (2 * k) 16 _ (λ i. within-mul (f .at i) (pick (eqb (i % 2) 0) i)))
+  where
+    pick : (b : Bool) (i : ℕ) → Within k (cond b (getD even i (pos 0)) (getD odd i (pos 0)))
+    pick true i = g .at i
+    pick false i = h .at i

@@ -1,0 +1,40 @@
+-- How the code makes the chips of a slot, sixteen at a time. Nothing here is document 01's: the contracts of the bench's calls do not name it.
+use lib.IntN.{ℤ}
+use Prim.Native.Nat.{ℕ, _+_, _-_, _%_}
+use mathlib.Core.Bool.{Bool, true, false, cond, _&&_}
+use mathlib.Core.List.{List}
+use mathlib.Core.Option.{Option, none, some}
+use lib.Dec.{leb, ltb}
+use lib.ListN.{getD}
+use Rattle.complex.specs.declared.Complex.{Complex}
+use Rattle.complex.specs.Arithmetic.{_+j_, _⊕_}
+use Rattle.complex.specs.Buffers.{listed}
+use Rattle.codes.specs.Scrambling.{code-group}
+use Rattle.sync_codes.specs.Burst.{burst-start}
+use Rattle.modulation.specs.Symbols.{symbol}
+use Rattle.modulation.specs.Held.{component, spread, turned}
+use Rattle.slot.specs.declared.Sync.{Sync}
+use Rattle.slot.specs.Setup.{SyncSetup}
+use Rattle.slot.specs.Slot.{sync-chip}
+use Rattle.slot.specs.Tables.{view-sync}
+
+-- one component of the sixteen chips before scrambling, from the pairs that stand from `from` on
+abbrev pub spread-row : List ℕ → List ℕ → ℕ → Bool → List ℤ
+spread-row gains pairs from re = listed 16 (spread gains (listed 16 (λ i. component (symbol (getD pairs (from + i) 0)) re)))
+
+-- chip c of them, scrambled by its turns t and u
+abbrev pub block-chip : List ℕ → List ℕ → ℕ → List ℤ → List ℤ → ℕ → Complex
+block-chip gains pairs from t u c =
+    let x = spread-row gains pairs from true in
+    let y = spread-row gains pairs from false in
+    turned t y x c +j turned u x y c
+
+-- chip q of a field, with the burst's: as `field-chip`, from its block
+abbrev pub held-chip : List ℕ → List ℕ → ℕ → Sync → List ℤ → List ℤ → ℕ → ℕ → ℕ → Complex
+held-chip gains pairs p sync t u before start q =
+    block-chip gains pairs (before + (q - q % 16)) t u (q % 16) ⊕ sync-chip p (view-sync p sync) (start + q)
+
+-- whether the burst falls on chip x of the slot: the test of `sync-chip`
+unfoldable pub falls-on : ℕ → Option SyncSetup → ℕ → Bool
+falls-on p none x = false
+falls-on p (some y) x = let start = burst-start (code-group p) in leb start x && ltb x (start + 256)
