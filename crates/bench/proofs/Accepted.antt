@@ -66,7 +66,7 @@ gain-small g e = leb→le g 4095 (and-yes (leb 1 g) (leb g 4095) (subst T (sym (
 pub gain-fits : (g : ℕ) → bad-gain g ≡ false → Fits w16 g
 gain-fits g e = fits-below {n = 4095} tt (gain-small g e)
 
--- ---- what 3, 4 and 5 let pass is what `with_code` asks
+-- ---- what 3, 4 and 5 let pass is what `with_gain` asks
 pub code-and-gain : (Q k g : ℕ) (rs : List Refusal) → Passed (3 if not (is-spreading-factor Q) ∷ 4 if leb Q k ∷ 5 if bad-gain g ∷ rs)
-    → (is-spreading-factor Q ≡ true) × (k < Q) × (g ≤ 4095)
-code-and-gain Q k g rs p = let h = good-code Q k (p .0) (p .1 .0) in (h .factor, h .below, gain-small g (p .1 .1 .0))
+    → (k < Q) × (Q ≤ 16) × (g ≤ 4095)
+code-and-gain Q k g rs p = let h = good-code Q k (p .0) (p .1 .0) in (h .below, h .small, gain-small g (p .1 .1 .0))

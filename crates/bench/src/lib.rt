@@ -4,13 +4,11 @@
 ghost use mathlib.Core.Path.{_≡_};
 ghost use lib.ListN.{length, take};
 ghost use Rattle.complex.specs.Buffers.{written};
-ghost use Rattle.codes.specs.Refusals.{after, gives, outcome, refused};
-ghost use Rattle.codes.specs.Tree.{is-spreading-factor};
-ghost use mathlib.Core.Bool.{true, cond};
-ghost use mathlib.Core.List.{[]};
-ghost use Prim.Native.Nat.{_<_, _≤_};
-ghost use lib.Dec.{eqb, leb};
-ghost use Rattle.bench.specs.Changes.{no-sync, with-bits, with-gain, with-settings};
+ghost use Rattle.codes.specs.Refusals.{after, outcome};
+ghost use mathlib.Core.Bool.{cond};
+ghost use Prim.Native.Nat.{_≤_};
+ghost use lib.Dec.{leb};
+ghost use Rattle.bench.specs.Changes.{no-sync, with-gains, with-pairs, with-settings};
 ghost use Rattle.bench.specs.BenchCalls.{close-call, clear-sync-call, counted, draw-call, fresh, fresh-settings, left-by, load-bits-call, load-plan-call, open-call, plan-left-by, plan-outcome, set-cell-call, set-gain-call, set-sync-call, start-call, told-call, told-draw, told-plan};
 use codes::CellParameter;
 use slot::Settings;
@@ -113,16 +111,6 @@ fn fresh_settings() -> Settings
     }
 }
 
-// The answer of a call whose refusal tests found this number.
-fn answer(number: u32) -> CallAnswer
-    ensures { λ r. ⌜ told-call r ≡ cond (eqb number 0) (gives tt) (refused number) ⌝ }
-{
-    match number {
-        0 => CallAnswer::Accepted,
-        _ => CallAnswer::Refused(number),
-    }
-}
-
 impl Bench {
     // Parameter 0, type 1, nothing open, no sync, no slot.
     pub fn fresh() -> Bench
@@ -162,36 +150,46 @@ impl Bench {
         }
     }
 
-    // Code (q, k) with this gain, which is 0 where it is closed, and with bits all 0 where they are cleared.
-    fn with_code(mut self, q: u32, k: u32, gain: u32, cleared: bool) -> Bench
-        requires { ⌜ (is-spreading-factor q ≡ true) × (k < q) × (gain ≤ 4095) ⌝ }
-        ensures { λ r. ⌜ r ≡ with-settings self (cond cleared (with-bits (with-gain (self .settings) q k gain) q k []) (with-gain (self .settings) q k gain)) ⌝ }
+    // With these gains and pairs. The settings are built of their parts: so the compiler sees that no part is copied twice.
+    fn with_tables(mut self, gains: [u16; 31], pairs: [u8; 2208]) -> Bench
+        ensures { λ r. ⌜ r ≡ with-settings self (with-pairs (with-gains (self .settings) gains) pairs) ⌝ }
     {
-        let mut s = self.settings;
-        let node = tables::node(q, k);
-        s.gains[node] = gain as u16;
-        if cleared {
-            tables::set_bits(&mut s.pairs, q, k, b"");
-        }
-        self.settings = s;
+        let s = self.settings;
+        let cell = s.cell;
+        let sync = s.sync;
+        let new = Settings {
+            cell: cell,
+            kind: s.kind,
+            gains: gains,
+            pairs: pairs,
+            sync: sync,
+        };
+        self.settings = new;
         self
     }
 
     // Opens code (q, k) with bits all 0. Refuses 3 bad q; 4 k not below q; 5 gain not 1 to 4095; 6 related to an open code.
-    pub fn open(mut self, q: u32, k: u32, gain: u32) -> Answered
+    pub fn open(self, q: u32, k: u32, gain: u32) -> Answered
         ensures answer { λ r. ⌜ told-call (r .answer) ≡ outcome (open-call self q k gain) ⌝ }
         ensures bench { λ r. ⌜ r .bench ≡ left-by (open-call self q k gain) self ⌝ }
     {
-        let number = refusals::open(self.settings, q, k, gain);
+        let s = self.settings;
+        let gains = s.gains;
+        let number = refusals::open(&gains, q, k, gain);
         if number != 0 {
             return Answered {
                 answer: CallAnswer::Refused(number),
                 bench: self,
             };
         }
+        let opened = tables::with_gain(gains, q, k, gain);
+        // The gains of a bench that has this code alone.
+        let alone = tables::with_gain([0u16; 31], q, k, 1);
+        let mut pairs = s.pairs;
+        tables::clear_open(&mut pairs, &alone);
         Answered {
             answer: CallAnswer::Accepted,
-            bench: self.with_code(q, k, gain, true),
+            bench: self.with_tables(opened, pairs),
         }
     }
 
@@ -229,56 +227,68 @@ impl Bench {
     }
 
     // Refuses 3; 4; 7 code not open.
-    pub fn close(mut self, q: u32, k: u32) -> Answered
+    pub fn close(self, q: u32, k: u32) -> Answered
         ensures answer { λ r. ⌜ told-call (r .answer) ≡ outcome (close-call self q k) ⌝ }
         ensures bench { λ r. ⌜ r .bench ≡ left-by (close-call self q k) self ⌝ }
     {
-        let number = refusals::close(self.settings, q, k);
+        let s = self.settings;
+        let gains = s.gains;
+        let number = refusals::close(&gains, q, k);
         if number != 0 {
             return Answered {
                 answer: CallAnswer::Refused(number),
                 bench: self,
             };
         }
+        let closed = tables::with_gain(gains, q, k, 0);
+        let pairs = s.pairs;
         Answered {
             answer: CallAnswer::Accepted,
-            bench: self.with_code(q, k, 0, false),
+            bench: self.with_tables(closed, pairs),
         }
     }
 
     // Keeps the bits. Refuses 3; 4; 5; 7.
-    pub fn set_gain(mut self, q: u32, k: u32, gain: u32) -> Answered
+    pub fn set_gain(self, q: u32, k: u32, gain: u32) -> Answered
         ensures answer { λ r. ⌜ told-call (r .answer) ≡ outcome (set-gain-call self q k gain) ⌝ }
         ensures bench { λ r. ⌜ r .bench ≡ left-by (set-gain-call self q k gain) self ⌝ }
     {
-        let number = refusals::set_gain(self.settings, q, k, gain);
+        let s = self.settings;
+        let gains = s.gains;
+        let number = refusals::set_gain(&gains, q, k, gain);
         if number != 0 {
             return Answered {
                 answer: CallAnswer::Refused(number),
                 bench: self,
             };
         }
+        let changed = tables::with_gain(gains, q, k, gain);
+        let pairs = s.pairs;
         Answered {
             answer: CallAnswer::Accepted,
-            bench: self.with_code(q, k, gain, false),
+            bench: self.with_tables(changed, pairs),
         }
     }
 
     // One byte a bit. Refuses 3; 4; 7; 8 count not 2(F1+F2)/q, F1 and F2 being the field lengths; 9 a byte above 1.
-    pub fn load_bits(mut self, q: u32, k: u32, bits: &[u8]) -> Answered
+    pub fn load_bits(self, q: u32, k: u32, bits: &[u8]) -> Answered
         ensures answer { λ r. ⌜ told-call (r .answer) ≡ outcome (load-bits-call self q k (now (bits .entry))) ⌝ }
         ensures bench { λ r. ⌜ r .bench ≡ left-by (load-bits-call self q k (now (bits .entry))) self ⌝ }
     {
-        let mut s = self.settings;
-        let number = refusals::load_bits(s, q, k, bits);
-        // Nothing is written before every test has passed.
-        if number == 0 {
-            tables::set_bits(&mut s.pairs, q, k, bits);
+        let s = self.settings;
+        let gains = s.gains;
+        let number = refusals::load_bits(&gains, s.kind, q, k, bits);
+        if number != 0 {
+            return Answered {
+                answer: CallAnswer::Refused(number),
+                bench: self,
+            };
         }
-        self.settings = s;
+        let mut pairs = s.pairs;
+        tables::set_bits(&mut pairs, q, k, bits);
         Answered {
-            answer: answer(number),
-            bench: self,
+            answer: CallAnswer::Accepted,
+            bench: self.with_tables(gains, pairs),
         }
     }
 
@@ -337,8 +347,8 @@ impl Bench {
                 bench: self,
             };
         }
-        let s = self.settings;
-        self.sending = s;
+        let copy = self.settings;
+        self.sending = copy;
         self.running = 1;
         self.position = 0;
         Answered {

@@ -1,4 +1,5 @@
 -- `close` meets its contract: a refusal, or the gain 0. Assumes nothing.
+use mathlib.Core.Path.{refl}
 use mathlib.Core.List.{List}
 use native.Mathlib.Omega.{arith}
 use borrow.Author.Needs.{needs}
@@ -13,28 +14,31 @@ use Rattle.bench.proofs.Bench.close.Tie as tie
 abbrev refusals : tie.Start → List Refusal
 refusals c = let s = c .args in close-refusals (view (s .self .settings)) (s .q) (s .k)
 
+abbrev start : tie.Else1 → tie.Start
+start c = c .before .before .before .before .before
+
 returns : tie.Need-returns
 returns c =
-    let s = c .before .before in
-    call-refused (refusals s) (s .args .self) _ (c .before .close .ensures) (c .if1 .taken)
+    let s = c .before .before .before .before .before in
+    call-refused (refusals s) (s .args .self) _ (c .before .close .ensures _ refl) (c .if1 .taken)
 
 -- what the tests leave
-tests : (c : tie.Else1) → Passed (refusals (c .before .before))
+tests : (c : tie.Else1) → Passed (refusals (start c))
 unfolding numbered
-tests c = passed-all (refusals (c .before .before)) (c .before .close .ensures) tt (c .if1 .left)
+tests c = passed-all (refusals (start c)) (c .before .close .ensures _ refl) tt (c .if1 .left)
 
-with-code-requires : tie.Need-with-code-requires
-with-code-requires c κs =
-    let s = c .before .before .args in
+with-gain-requires : tie.Need-with-gain-requires
+with-gain-requires c κs =
+    let s = start c .args in
     let h = good-code (s .q) (s .k) (tests c .0) (tests c .1 .0) in
-    (h .factor, h .below, omega arith)
+    (h .below, h .small, omega arith)
 
 returns-2 : tie.Need-returns-2
 unfolding numbered
 returns-2 c =
-    let e = c .before in
-    let s = e .before .before in
-    rw (c .with-code .ensures) (call-accepted (refusals s) (s .args .self) _ (e .before .close .ensures) tt (e .if1 .left))
+    let e = c .before .before .before in
+    let s = start e in
+    rw (c .with-tables .ensures, c .before .before .with-gain .ensures) (call-accepted (refusals s) (s .args .self) _ (e .before .close .ensures _ refl) tt (e .if1 .left))
 
 pub close-spec : {M : Type 1} → statement M
-close-spec = tie.close (tie.spec (λ c κs. search needs) returns with-code-requires returns-2)
+close-spec = tie.close (tie.spec (λ c κs. search needs) returns with-gain-requires (λ c κs. search needs) returns-2)

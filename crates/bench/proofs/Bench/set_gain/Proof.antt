@@ -1,4 +1,5 @@
 -- `set_gain` meets its contract: a refusal, or the gain, and the bits as they were. Assumes nothing.
+use mathlib.Core.Path.{refl}
 use mathlib.Core.List.{List}
 use borrow.Author.Needs.{needs}
 use lib.ListN.{drop}
@@ -13,25 +14,30 @@ use Rattle.bench.proofs.Bench.set_gain.Tie as tie
 abbrev refusals : tie.Start → List Refusal
 refusals c = let s = c .args in set-gain-refusals (view (s .self .settings)) (s .q) (s .k) (s .gain)
 
+abbrev start : tie.Else1 → tie.Start
+start c = c .before .before .before .before .before
+
 returns : tie.Need-returns
 returns c =
-    let s = c .before .before in
-    call-refused (refusals s) (s .args .self) _ (c .before .set-gain .ensures) (c .if1 .taken)
+    let s = c .before .before .before .before .before in
+    call-refused (refusals s) (s .args .self) _ (c .before .set-gain .ensures _ refl) (c .if1 .taken)
 
 -- what the tests leave
-tests : (c : tie.Else1) → Passed (refusals (c .before .before))
+tests : (c : tie.Else1) → Passed (refusals (start c))
 unfolding numbered
-tests c = passed-all (refusals (c .before .before)) (c .before .set-gain .ensures) tt (c .if1 .left)
+tests c = passed-all (refusals (start c)) (c .before .set-gain .ensures _ refl) tt (c .if1 .left)
 
-with-code-requires : tie.Need-with-code-requires
-with-code-requires c κs = let s = c .before .before in code-and-gain (s .args .q) (s .args .k) (s .args .gain) (drop 3 (refusals s)) (tests c)
+with-gain-requires : tie.Need-with-gain-requires
+with-gain-requires c κs =
+    let s = start c .args in
+    code-and-gain (s .q) (s .k) (s .gain) (drop 3 (refusals (start c))) (tests c)
 
 returns-2 : tie.Need-returns-2
 unfolding numbered
 returns-2 c =
-    let e = c .before in
-    let s = e .before .before in
-    rw (c .with-code .ensures) (call-accepted (refusals s) (s .args .self) _ (e .before .set-gain .ensures) tt (e .if1 .left))
+    let e = c .before .before .before in
+    let s = start e in
+    rw (c .with-tables .ensures, c .before .before .with-gain .ensures) (call-accepted (refusals s) (s .args .self) _ (e .before .set-gain .ensures _ refl) tt (e .if1 .left))
 
 pub set-gain-spec : {M : Type 1} → statement M
-set-gain-spec = tie.close (tie.spec (λ c κs. search needs) returns with-code-requires returns-2)
+set-gain-spec = tie.close (tie.spec (λ c κs. search needs) returns with-gain-requires (λ c κs. search needs) returns-2)
