@@ -195,11 +195,11 @@ impl Bench {
 
     // Replaces all open codes by those of the plan, with bits all 0, or changes nothing. Refuses 3, 4, 5, 6 as open would for the first
     // record that fails, taken in order against earlier records only, with that record's place.
-    pub fn load_plan(mut self, plan: &[Channel]) -> Planned
+    pub fn load_plan(self, plan: &[Channel]) -> Planned
         ensures answer { λ r. ⌜ told-plan (r .answer) ≡ plan-outcome (load-plan-call self (now (plan .entry))) ⌝ }
         ensures bench { λ r. ⌜ r .bench ≡ plan-left-by (load-plan-call self (now (plan .entry))) self ⌝ }
     {
-        let mut taken = taken::none(self);
+        let mut taken = taken::none();
         let mut i = 0;
         while i < plan.len() {
             taken = taken.with_record(i, plan[i]);
