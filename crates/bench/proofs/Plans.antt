@@ -44,7 +44,7 @@ module _ (t : Taken) (d : t .number ≢ 0) where
   all-kept place [] = refl
   all-kept place (c ∷ cs) = rw (kept place c) (all-kept (suc place) cs)
 
-  pub settled-refused : (b : Bench) → settled b t ≡ refused-at (t .number) (t .place)
+  settled-refused : (b : Bench) → settled b t ≡ refused-at (t .number) (t .place)
   unfolding settled
   settled-refused b = rw (ne-eqb (t .number) 0 d)
 

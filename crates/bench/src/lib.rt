@@ -4,10 +4,10 @@
 ghost use mathlib.Core.Path.{_≡_};
 ghost use lib.ListN.{length, take};
 ghost use Rattle.complex.specs.Buffers.{written};
-ghost use Rattle.codes.specs.Refusals.{after, outcome};
+ghost use Rattle.codes.specs.Refusals.{after, gives, outcome, refused};
 ghost use mathlib.Core.Bool.{cond};
 ghost use Prim.Native.Nat.{_≤_};
-ghost use lib.Dec.{leb};
+ghost use lib.Dec.{eqb, leb};
 ghost use Rattle.bench.specs.Changes.{no-sync, with-gains, with-pairs, with-settings};
 ghost use Rattle.bench.specs.BenchCalls.{close-call, clear-sync-call, counted, draw-call, fresh, fresh-settings, left-by, load-bits-call, load-plan-call, open-call, plan-left-by, plan-outcome, set-cell-call, set-gain-call, set-sync-call, start-call, told-call, told-draw, told-plan};
 use codes::CellParameter;
@@ -111,6 +111,17 @@ fn fresh_settings() -> Settings
     }
 }
 
+// The answer of a call whose refusal tests found this number. Such a call has one way out, with or without its change: two ways, each with a bench,
+// would be a copy more.
+fn answer(number: u32) -> CallAnswer
+    ensures { λ r. ⌜ told-call r ≡ cond (eqb number 0) (gives tt) (refused number) ⌝ }
+{
+    match number {
+        0 => CallAnswer::Accepted,
+        _ => CallAnswer::Refused(number),
+    }
+}
+
 impl Bench {
     // Parameter 0, type 1, nothing open, no sync, no slot.
     pub fn fresh() -> Bench
@@ -131,40 +142,40 @@ impl Bench {
         ensures bench { λ r. ⌜ r .bench ≡ left-by (set-cell-call self cell kind) self ⌝ }
     {
         let number = refusals::set_cell(cell, kind);
-        if number != 0 {
-            return Answered {
-                answer: CallAnswer::Refused(number),
-                bench: self,
-            };
-        }
         let silent = no_sync();
         let mut s = self.settings;
-        s.cell = cell;
-        s.kind = kind;
-        s.gains = [0u16; 31];
-        s.sync = silent;
+        let mut new_cell = s.cell;
+        let mut new_kind = s.kind;
+        let mut gains = s.gains;
+        let mut sync = s.sync;
+        if number == 0 {
+            new_cell = cell;
+            new_kind = kind;
+            gains = [0u16; 31];
+            sync = silent;
+        }
+        s.cell = new_cell;
+        s.kind = new_kind;
+        s.gains = gains;
+        s.sync = sync;
         self.settings = s;
         Answered {
-            answer: CallAnswer::Accepted,
+            answer: answer(number),
             bench: self,
         }
     }
 
-    // With these gains and pairs. The settings are built of their parts: so the compiler sees that no part is copied twice.
+    // With these gains and pairs. The type is stored again so that the settings are moved part by part and not as a whole: a part that is a number
+    // keeps the compiler from a copy of them on the stack.
     fn with_tables(mut self, gains: [u16; 31], pairs: [u8; 2208]) -> Bench
         ensures { λ r. ⌜ r ≡ with-settings self (with-pairs (with-gains (self .settings) gains) pairs) ⌝ }
     {
-        let s = self.settings;
-        let cell = s.cell;
-        let sync = s.sync;
-        let new = Settings {
-            cell: cell,
-            kind: s.kind,
-            gains: gains,
-            pairs: pairs,
-            sync: sync,
-        };
-        self.settings = new;
+        let mut s = self.settings;
+        let kind = s.kind;
+        s.kind = kind;
+        s.gains = gains;
+        s.pairs = pairs;
+        self.settings = s;
         self
     }
 
@@ -174,22 +185,18 @@ impl Bench {
         ensures bench { λ r. ⌜ r .bench ≡ left-by (open-call self q k gain) self ⌝ }
     {
         let s = self.settings;
-        let gains = s.gains;
-        let number = refusals::open(&gains, q, k, gain);
-        if number != 0 {
-            return Answered {
-                answer: CallAnswer::Refused(number),
-                bench: self,
-            };
-        }
-        let opened = tables::with_gain(gains, q, k, gain);
-        // The gains of a bench that has this code alone.
-        let alone = tables::with_gain([0u16; 31], q, k, 1);
+        let mut gains = s.gains;
         let mut pairs = s.pairs;
-        tables::clear_open(&mut pairs, &alone);
+        let number = refusals::open(&gains, q, k, gain);
+        if number == 0 {
+            gains = tables::with_gain(gains, q, k, gain);
+            // The gains of a bench that has this code alone.
+            let alone = tables::with_gain([0u16; 31], q, k, 1);
+            tables::clear_open(&mut pairs, &alone);
+        }
         Answered {
-            answer: CallAnswer::Accepted,
-            bench: self.with_tables(opened, pairs),
+            answer: answer(number),
+            bench: self.with_tables(gains, pairs),
         }
     }
 
@@ -232,19 +239,15 @@ impl Bench {
         ensures bench { λ r. ⌜ r .bench ≡ left-by (close-call self q k) self ⌝ }
     {
         let s = self.settings;
-        let gains = s.gains;
+        let mut gains = s.gains;
         let number = refusals::close(&gains, q, k);
-        if number != 0 {
-            return Answered {
-                answer: CallAnswer::Refused(number),
-                bench: self,
-            };
+        if number == 0 {
+            gains = tables::with_gain(gains, q, k, 0);
         }
-        let closed = tables::with_gain(gains, q, k, 0);
         let pairs = s.pairs;
         Answered {
-            answer: CallAnswer::Accepted,
-            bench: self.with_tables(closed, pairs),
+            answer: answer(number),
+            bench: self.with_tables(gains, pairs),
         }
     }
 
@@ -254,19 +257,15 @@ impl Bench {
         ensures bench { λ r. ⌜ r .bench ≡ left-by (set-gain-call self q k gain) self ⌝ }
     {
         let s = self.settings;
-        let gains = s.gains;
+        let mut gains = s.gains;
         let number = refusals::set_gain(&gains, q, k, gain);
-        if number != 0 {
-            return Answered {
-                answer: CallAnswer::Refused(number),
-                bench: self,
-            };
+        if number == 0 {
+            gains = tables::with_gain(gains, q, k, gain);
         }
-        let changed = tables::with_gain(gains, q, k, gain);
-        let pairs = s.pairs;
+        let kept = s.pairs;
         Answered {
-            answer: CallAnswer::Accepted,
-            bench: self.with_tables(changed, pairs),
+            answer: answer(number),
+            bench: self.with_tables(gains, kept),
         }
     }
 
@@ -277,17 +276,14 @@ impl Bench {
     {
         let s = self.settings;
         let gains = s.gains;
-        let number = refusals::load_bits(&gains, s.kind, q, k, bits);
-        if number != 0 {
-            return Answered {
-                answer: CallAnswer::Refused(number),
-                bench: self,
-            };
-        }
         let mut pairs = s.pairs;
-        tables::set_bits(&mut pairs, q, k, bits);
+        let number = refusals::load_bits(&gains, s.kind, q, k, bits);
+        // Nothing is written before every test has passed.
+        if number == 0 {
+            tables::set_bits(&mut pairs, q, k, bits);
+        }
         Answered {
-            answer: CallAnswer::Accepted,
+            answer: answer(number),
             bench: self.with_tables(gains, pairs),
         }
     }
@@ -337,23 +333,32 @@ impl Bench {
     }
 
     // Copies the settings: the slot that starts keeps them, whatever calls follow. Refuses 10 slot under way.
-    pub fn start(mut self) -> Answered
+    pub fn start(self) -> Answered
         ensures answer { λ r. ⌜ told-call (r .answer) ≡ outcome (start-call self) ⌝ }
         ensures bench { λ r. ⌜ r .bench ≡ left-by (start-call self) self ⌝ }
     {
-        if self.running != 0 {
-            return Answered {
-                answer: CallAnswer::Refused(10),
-                bench: self,
-            };
+        let settings = self.settings;
+        let mut sending = self.sending;
+        let mut running = self.running;
+        let mut position = self.position;
+        let mut number = 10;
+        if running == 0 {
+            sending = settings;
+            running = 1;
+            position = 0;
+            number = 0;
         }
-        let copy = self.settings;
-        self.sending = copy;
-        self.running = 1;
-        self.position = 0;
+        // As in `with_tables`.
+        let kind = sending.kind;
+        sending.kind = kind;
         Answered {
-            answer: CallAnswer::Accepted,
-            bench: self,
+            answer: answer(number),
+            bench: Bench {
+                settings: settings,
+                running: running,
+                sending: sending,
+                position: position,
+            },
         }
     }
 

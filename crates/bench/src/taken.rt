@@ -1,6 +1,8 @@
 // What load plan has taken of its records so far. The rules are here; `load_plan` walks the list.
 ghost use mathlib.Core.Path.{_≡_};
-ghost use Rattle.bench.specs.BenchCalls.{plan-left-by, plan-outcome, told-plan};
+ghost use mathlib.Core.Bool.{cond};
+ghost use lib.Dec.{eqb};
+ghost use Rattle.bench.specs.BenchCalls.{loads, plan-left-by, plan-outcome, refused-at, told-plan};
 ghost use Rattle.bench.specs.Taken.{none-taken, settled, with-record};
 use crate::Bench;
 use crate::Channel;
@@ -25,6 +27,16 @@ pub fn none() -> Taken
         gains: [0u16; 31],
         number: 0,
         place: 0,
+    }
+}
+
+// The answer to a plan whose records left this number and place.
+fn answer(number: u32, place: usize) -> PlanAnswer
+    ensures { λ r. ⌜ told-plan r ≡ cond (eqb number 0) (loads tt) (refused-at number place) ⌝ }
+{
+    match number {
+        0 => PlanAnswer::Loaded,
+        _ => PlanAnswer::Refused(number, place),
     }
 }
 
@@ -58,19 +70,15 @@ impl Taken {
         ensures answer { λ r. ⌜ told-plan (r .answer) ≡ plan-outcome (settled old self) ⌝ }
         ensures bench { λ r. ⌜ r .bench ≡ plan-left-by (settled old self) old ⌝ }
     {
-        let failed = self.number;
-        if failed != 0 {
-            return Planned {
-                answer: PlanAnswer::Refused(failed, self.place),
-                bench: old,
-            };
-        }
-        let gains = self.gains;
         let s = old.settings;
         let mut pairs = s.pairs;
-        tables::clear_open(&mut pairs, &gains);
+        let mut gains = s.gains;
+        if self.number == 0 {
+            gains = self.gains;
+            tables::clear_open(&mut pairs, &gains);
+        }
         Planned {
-            answer: PlanAnswer::Loaded,
+            answer: answer(self.number, self.place),
             bench: old.with_tables(gains, pairs),
         }
     }
