@@ -1,7 +1,7 @@
 // The tables of the settings.
 ghost use mathlib.Core.Path.{_≡_};
 ghost use mathlib.Core.Bool.{true, false, cond, _||_};
-ghost use Prim.Native.Nat.{_+_, _%_, _<_, _≤_};
+ghost use Prim.Native.Nat.{_+_, _*_, _%_, _<_, _≤_};
 ghost use lib.ListN.{length, set};
 ghost use Rattle.complex.specs.Buffers.{listed};
 ghost use Rattle.codes.specs.Tree.{is-spreading-factor};
@@ -44,7 +44,15 @@ pub fn any_of_five(a: bool, b: bool, c: bool, d: bool, e: bool) -> bool
     a || b || c || d || e
 }
 
-// Pair n of the bits, by its number; 0 past their end.
+// Pair n of the bits, by its number.
+fn inner_pair(bits: &[u8], n: usize) -> u8
+    requires { ⌜ (2 * n + 2 ≤ length (now bits)) × (has-byte-above-1 (now bits) ≡ false) ⌝ }
+    ensures { λ r. ⌜ r ≡ pair-of (now (bits .entry)) n ⌝ }
+{
+    2 * bits[2 * n] + bits[2 * n + 1]
+}
+
+// The same; 0 past their end.
 fn pair(bits: &[u8], n: usize) -> u8
     requires { ⌜ (n < 2208) × (has-byte-above-1 (now bits) ≡ false) × (length (now bits) % 2 ≡ 0) ⌝ }
     ensures { λ r. ⌜ r ≡ pair-of (now (bits .entry)) n ⌝ }
@@ -52,7 +60,7 @@ fn pair(bits: &[u8], n: usize) -> u8
     if bits.len() <= 2 * n {
         return 0;
     }
-    2 * bits[2 * n] + bits[2 * n + 1]
+    inner_pair(bits, n)
 }
 
 // The pairs of the bits from pair n on, to the w entries from `at` on.
@@ -67,6 +75,31 @@ fn put_pairs(pairs: &mut [u8; 2208], at: usize, w: usize, bits: &[u8], n: usize)
     }
 }
 
+// The same for a whole block of pairs that are all inside the bits: with no test a pair, it is twice as fast.
+fn put_block(pairs: &mut [u8; 2208], at: usize, bits: &[u8], n: usize)
+    requires { ⌜ (at + 16 ≤ 2208) × (2 * n + 32 ≤ length (now bits)) × (has-byte-above-1 (now bits) ≡ false) ⌝ }
+    ensures { λ r. ⌜ now (pairs .exit) ≡ with-part (now (pairs .entry)) at 16 (λ i. pair-of (now (bits .entry)) (n + i)) ⌝ }
+{
+    let all = &mut pairs[..];
+    for i in 0..16 {
+        all[at + i] = inner_pair(bits, n + i);
+    }
+}
+
+// The pairs of a code in one block.
+fn put_part(pairs: &mut [u8; 2208], at: usize, w: usize, bits: &[u8], n: usize)
+    requires { ⌜ (at + w ≤ 2208) × (n + w ≤ 2208) × (has-byte-above-1 (now bits) ≡ false) × (length (now bits) % 2 ≡ 0) ⌝ }
+    ensures { λ r. ⌜ now (pairs .exit) ≡ with-part (now (pairs .entry)) at w (λ i. pair-of (now (bits .entry)) (n + i)) ⌝ }
+{
+    if w == 16 {
+        if 2 * n + 32 <= bits.len() {
+            put_block(pairs, at, bits, n);
+            return;
+        }
+    }
+    put_pairs(pairs, at, w, bits, n);
+}
+
 // The bits of code (q, k), 0 past their end: block by block of sixteen entries, its own 16/q of them.
 pub fn set_bits(pairs: &mut [u8; 2208], q: u32, k: u32, bits: &[u8])
     requires { ⌜ (is-spreading-factor q ≡ true) × (k < q) × (has-byte-above-1 (now bits) ≡ false) × (length (now bits) % 2 ≡ 0) ⌝ }
@@ -75,7 +108,7 @@ pub fn set_bits(pairs: &mut [u8; 2208], q: u32, k: u32, bits: &[u8])
     let w = tree::width(q) as usize;
     let from = k as usize * w;
     for m in 0..138 {
-        put_pairs(&mut *pairs, 16 * m + from, w, bits, m * w);
+        put_part(&mut *pairs, 16 * m + from, w, bits, m * w);
     }
 }
 

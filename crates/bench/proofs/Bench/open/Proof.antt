@@ -1,7 +1,8 @@
 -- `open` meets its contract: a refusal, or the gain and bits all 0. Assumes nothing.
-use mathlib.Core.Path.{refl}
+use mathlib.Core.Path.{refl, sym, ap, _∙_}
 use mathlib.Core.Logic.{⊎-elim}
 use mathlib.Core.List.{List}
+use Prim.Native.Nat.{ℕ}
 use native.Mathlib.Omega.{arith}
 use borrow.Author.Needs.{needs}
 use borrow.Author.Tests.{eq-eqb, ne-eqb}
@@ -10,6 +11,7 @@ use Rattle.codes.specs.Refusals.{Refusal}
 use Rattle.codes.proofs.Refused.{numbered, Passed}
 use Rattle.slot.specs.Tables.{view}
 use Rattle.bench.specs.BenchCalls.{open-refusals}
+use Rattle.bench.specs.Held.{with-open-cleared}
 use Rattle.bench.proofs.Accepted.{call-refused, call-accepted, passed-all, Code, code-and-gain, good-code}
 use Rattle.bench.proofs.Cleared.{first-open}
 use Rattle.bench.proofs.Bench.open.Statement.{statement}
@@ -44,8 +46,10 @@ returns c =
     let b = s .args .self in
     ⊎-elim
     (λ w.
-    let new = first-open (s .args .q) (s .args .k) (code (record { before = j .before; if1 = w .0 })) (b .settings .pairs) in
-    rw (c .with-tables .ensures, c .before .answer .ensures, eq-eqb _ _ (w .0 .taken), w .6, w .7, w .5 .ensures, w .2 .ensures, w .1 .ensures, ← new)
+    let p = b .settings .pairs in
+    let first = first-open (s .args .q) (s .args .k) (code (record { before = j .before; if1 = w .0 })) p in
+    let pairs = w .7 ∙ w .5 .ensures ∙ ap (λ (g : List ℕ). with-open-cleared g p) (w .2 .ensures) ∙ sym first in
+    rw (c .with-tables .ensures, c .before .answer .ensures, eq-eqb _ _ (w .0 .taken), w .6, w .1 .ensures, pairs)
     (call-accepted (refusals s) b _ (n .ensures _ refl) tt (w .0 .taken)))
     (λ w. rw (c .with-tables .ensures, c .before .answer .ensures, ne-eqb _ _ (w .0 .left), w .1, w .2) (call-refused (refusals s) b _ (n .ensures _ refl) (w .0 .left)))
     (j .if1 .came)

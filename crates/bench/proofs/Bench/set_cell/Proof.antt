@@ -1,11 +1,14 @@
 -- `set_cell` meets its contract: a refusal, or the settings with nothing open. Assumes nothing.
+use mathlib.Core.Path.{_≡_, _∙_}
 use mathlib.Core.Logic.{⊎-elim}
 use mathlib.Core.List.{List}
 use borrow.Author.Needs.{needs}
 use borrow.Author.Tests.{eq-eqb, ne-eqb}
+use lib.ListN.{replicate}
 use Rattle.codes.specs.Refusals.{Refusal}
 use Rattle.codes.proofs.Refused.{numbered}
 use Rattle.bench.specs.BenchCalls.{set-cell-refusals}
+use Rattle.bench.specs.Changes.{no-sync}
 use Rattle.bench.proofs.Accepted.{call-refused, call-accepted}
 use Rattle.bench.proofs.Bench.set_cell.Statement.{statement}
 use Rattle.bench.proofs.Bench.set_cell.Tie as tie
@@ -23,8 +26,9 @@ returns c =
     let b = s .args .self in
     ⊎-elim
     (λ w.
-    rw (c .answer .ensures, eq-eqb _ _ (w .0 .taken), w .1, w .2, w .3, w .4, p .no-sync .ensures)
-    (call-accepted (refusals s) b _ (n .ensures) tt (w .0 .taken)))
+    let gains : j .if1 .gains ≡ replicate 31 0 = w .3 in
+    let sync : j .if1 .sync ≡ no-sync = w .4 ∙ p .no-sync .ensures in
+    rw (c .answer .ensures, eq-eqb _ _ (w .0 .taken), w .1, w .2, gains, sync) (call-accepted (refusals s) b _ (n .ensures) tt (w .0 .taken)))
     (λ w. rw (c .answer .ensures, ne-eqb _ _ (w .0 .left), w .1, w .2, w .3, w .4) (call-refused (refusals s) b _ (n .ensures) (w .0 .left)))
     (j .if1 .came)
 
