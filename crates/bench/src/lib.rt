@@ -146,18 +146,18 @@ impl Bench {
         let mut s = self.settings;
         let mut new_cell = s.cell;
         let mut new_kind = s.kind;
-        let mut gains = s.gains;
-        let mut sync = s.sync;
+        let mut new_gains = s.gains;
+        let mut new_sync = s.sync;
         if number == 0 {
             new_cell = cell;
             new_kind = kind;
-            gains = [0u16; 31];
-            sync = silent;
+            new_gains = [0u16; 31];
+            new_sync = silent;
         }
         s.cell = new_cell;
         s.kind = new_kind;
-        s.gains = gains;
-        s.sync = sync;
+        s.gains = new_gains;
+        s.sync = new_sync;
         self.settings = s;
         Answered {
             answer: answer(number),
@@ -324,6 +324,9 @@ impl Bench {
     {
         let none = no_sync();
         let mut quiet = self.settings;
+        // As in `with_tables`.
+        let kind = quiet.kind;
+        quiet.kind = kind;
         quiet.sync = none;
         self.settings = quiet;
         Answered {
