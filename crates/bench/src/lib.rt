@@ -147,7 +147,8 @@ impl Bench {
         let mut new_cell = s.cell;
         let mut new_kind = s.kind;
         let mut new_gains = s.gains;
-        let mut new_sync = s.sync;
+        let old_sync = s.sync;
+        let mut new_sync = old_sync;
         if number == 0 {
             new_cell = cell;
             new_kind = kind;
