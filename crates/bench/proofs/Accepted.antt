@@ -60,13 +60,15 @@ unfolding numbered
 found-code Q k e z = let p = passed-all (code-refusals Q k) e tt z in good-code Q k (p .0) (p .1 .0)
 
 -- ---- what 5 lets pass: the narrowing to 16 bits keeps such a gain
-pub gain-small : (g : ℕ) → bad-gain g ≡ false → g ≤ 4095
-gain-small g e = leb→le g 4095 (and-yes (leb 1 g) (leb g 4095) (subst T (sym (not-false (leb 1 g && leb g 4095) e)) tt) .1)
+pub gain-range : (g : ℕ) → bad-gain g ≡ false → (1 ≤ g) × (g ≤ 4095)
+gain-range g e =
+    let t = and-yes (leb 1 g) (leb g 4095) (subst T (sym (not-false (leb 1 g && leb g 4095) e)) tt) in
+    (leb→le 1 g (t .0), leb→le g 4095 (t .1))
 
 pub gain-fits : (g : ℕ) → bad-gain g ≡ false → Fits w16 g
-gain-fits g e = fits-below {n = 4095} tt (gain-small g e)
+gain-fits g e = fits-below {n = 4095} tt (gain-range g e .1)
 
--- ---- what 3, 4 and 5 let pass is what `with_code` asks
+-- ---- what 3, 4 and 5 let pass is what `with_gain` asks
 pub code-and-gain : (Q k g : ℕ) (rs : List Refusal) → Passed (3 if not (is-spreading-factor Q) ∷ 4 if leb Q k ∷ 5 if bad-gain g ∷ rs)
-    → (is-spreading-factor Q ≡ true) × (k < Q) × (g ≤ 4095)
-code-and-gain Q k g rs p = let h = good-code Q k (p .0) (p .1 .0) in (h .factor, h .below, gain-small g (p .1 .1 .0))
+    → (k < Q) × (Q ≤ 16) × (g ≤ 4095)
+code-and-gain Q k g rs p = let h = good-code Q k (p .0) (p .1 .0) in (h .below, h .small, gain-range g (p .1 .1 .0) .1)

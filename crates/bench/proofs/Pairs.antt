@@ -25,6 +25,29 @@ all-entries {r} {old} {new} e b =
     ext-getD 0 new _ (e ∙ sym (length-listed _ 2208))
     (λ i l. let m : i < 2208 = omega arith in b .at i m ∙ sym (listed-at (λ i. r i (getD old i 0)) 0 2208 i m))
 
+-- ---- a pass from the first entry on: the entries before n became g of the old ones
+module _ (g : ℕ → ℕ → ℕ) where
+  unfoldable pub passed : ℕ → ℕ → ℕ → ℕ
+  passed n i x = cond (ltb i n) (g i x) x
+
+  pub none-passed : (old : List ℕ) → Became (passed 0) old old
+  unfolding passed
+  none-passed old = record { at = λ i l. rw (le-ltb i 0 (omega arith)) }
+
+  pub one-more-passed : (n : ℕ) {old new : List ℕ} {x : ℕ} → n < 2208 → length new ≡ 2208 → x ≡ g n (getD new n 0) → Became (passed n) old new
+      → Became (passed (n + 1)) old (set new n x)
+  unfolding passed
+  one-more-passed n {old} {new} {x} l len e b = record { at = λ i m. go i m (ℕ-discrete i n) (decLt i n) }
+    where
+      go : (i : ℕ) → i < 2208 → Dec (i ≡ n) → Dec (i < n) → getD (set new n x) i 0 ≡ passed (n + 1) i (getD old i 0)
+      go i m (yes p) _ = rw (p, getD-set-same new n x 0 (rw len l), e, b .at n l, le-ltb n n (omega arith), lt-ltb n (n + 1) (omega arith))
+      go i m (no p) (yes h) = getD-set-other new n i x 0 p ∙ b .at i m ∙ rw (lt-ltb i n h, lt-ltb i (n + 1) (omega arith))
+      go i m (no p) (no h) = getD-set-other new n i x 0 p ∙ b .at i m ∙ rw (le-ltb i n (omega arith), le-ltb i (n + 1) (omega arith))
+
+  pub all-passed : {old new : List ℕ} → Became (passed 2208) old new → Became g old new
+  unfolding passed
+  all-passed b = record { at = λ i l. b .at i l ∙ rw (lt-ltb i 2208 l) }
+
 -- ---- a part: the w entries from `at` on become f 0, f 1, ..
 module _ (at : ℕ) (f : ℕ → ℕ) where
   unfoldable pub part : ℕ → ℕ → ℕ → ℕ

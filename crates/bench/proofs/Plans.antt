@@ -1,23 +1,33 @@
 -- Load plan's records, taken one after the other as the code does, settle to document 01's load plan. Assumes nothing.
 use mathlib.Core.Path.{_≡_, refl, sym, ap, subst, _∙_}
 use mathlib.Core.Logic.{_≢_}
+use mathlib.Core.Bool.{Bool, true, false, not, _&&_}
 use mathlib.Core.List.{List, [], _∷_}
 use Prim.Native.Nat.{ℕ, zero, suc, _+_, _<_, min}
+use native.Mathlib.Decide.{ℕ-discrete}
 use native.Mathlib.Numerals.{add-one}
 use native.Mathlib.Omega.{arith}
 use borrow.Author.Tests.{eq-eqb, ne-eqb}
-use lib.Dec.{T}
-use lib.ListN.{length, getD, take, drop, length-take}
+use lib.Dec.{T, leb}
+use lib.ListN.{length, getD, take, drop, replicate, length-set, length-take}
 use lib.Seq.{drop-cons, take-length, take-take}
-use Rattle.codes.specs.Refusals.{Answer, gives, refused, Refusal, _otherwise_, outcome, number}
-use Rattle.codes.proofs.Refused.{numbered, accepted, not-accepted}
+use Rattle.codes.specs.Range.{any}
+use Rattle.codes.specs.Refusals.{Answer, gives, refused, Refusal, _if_, _otherwise_, number}
+use Rattle.codes.specs.Tree.{is-spreading-factor}
+use Rattle.codes.proofs.Refused.{numbered, passed, accepted, not-accepted}
+use Rattle.slot.specs.declared.Settings.{Settings}
 use Rattle.slot.specs.Tables.{view}
 use Rattle.bench.specs.declared.Bench.{Bench}
 use Rattle.bench.specs.declared.Channel.{Channel}
 use Rattle.bench.specs.declared.Planned.{Planned}
 use Rattle.bench.specs.declared.taken.Taken.{Taken}
-use Rattle.bench.specs.BenchCalls.{AnswerAt, left-by, load-plan-call, open-call, open-refusals, opened-in-turn, plan-left-by, plan-outcome, refused-at, told-plan}
-use Rattle.bench.specs.Taken.{after-open, all-opened, none-taken, settled, with-record, with-records}
+use Rattle.bench.specs.BenchCalls.{AnswerAt, bad-gain, fresh-settings, load-plan-call, open-refusals, opened-in-turn, plan-left-by, plan-outcome, refused-at, some-code, told-plan}
+use Rattle.bench.specs.Changes.{with-bits, with-gain, with-gains, with-pairs, with-settings}
+use Rattle.bench.specs.Held.{clashes, is-leaf-open, with-open-cleared}
+use Rattle.bench.specs.Taken.{all-opened, gains-after, none-taken, open-number, settled, with-opened, with-record, with-records}
+use Rattle.bench.proofs.Accepted.{gain-range, good-code}
+use Rattle.bench.proofs.Cleared.{one-more-open}
+use Rattle.bench.proofs.Opened.{related-in-gains}
 
 -- what the contract of a load says of its result r: a is the answer, and b the bench that it took
 abbrev pub Answers : AnswerAt Bench → Bench → Planned → Type 0
@@ -34,49 +44,78 @@ module _ (t : Taken) (d : t .number ≢ 0) where
   all-kept place [] = refl
   all-kept place (c ∷ cs) = rw (kept place c) (all-kept (suc place) cs)
 
-  pub settled-refused : settled t ≡ refused-at (t .number) (t .place)
+  settled-refused : (b : Bench) → settled b t ≡ refused-at (t .number) (t .place)
   unfolding settled
-  settled-refused = rw (ne-eqb (t .number) 0 d)
+  settled-refused b = rw (ne-eqb (t .number) 0 d)
 
--- while none has, the next record is opened
-module _ (t : Taken) (place : ℕ) (c : Channel) where
-  abbrev call : Answer Bench
-  call = open-call (t .bench) (c .q) (c .k) (c .gain)
-
-  pub next-opened : t .number ≡ 0 → {a : Answer (Unit {0})} {b : Bench} → a ≡ outcome call → b ≡ left-by call (t .bench)
-      → after-open a b place ≡ with-record t place c
+-- while none has, the next record is opened, or it fails
+module _ (t : Taken) (place : ℕ) (c : Channel) (z : t .number ≡ 0) {n : ℕ} (e : n ≡ open-number (t .gains) c) where
+  pub next-opened : n ≡ 0 → all-opened (gains-after (t .gains) c) ≡ with-record t place c
   unfolding with-record
-  next-opened z e l = rw (eq-eqb (t .number) 0 z) (λ i. after-open (e i) (l i) place)
+  next-opened o = rw (eq-eqb (t .number) 0 z, eq-eqb (open-number (t .gains) c) 0 (sym e ∙ o))
 
--- a refusal's number is not 0
-abbrev Numbered : Answer Bench → Type 0
-Numbered (refused n) = n ≢ 0
-Numbered (gives next) = Unit {0}
+  pub next-failed : n ≢ 0 → record { gains = t .gains; number = n; place = place } ≡ with-record t place c
+  unfolding with-record
+  next-failed d = rw (eq-eqb (t .number) 0 z, ne-eqb (open-number (t .gains) c) 0 (λ o. d (e ∙ o)), e)
 
-never-0 : (rs : List Refusal) (new : Bench) → T (numbered rs) → Numbered (rs otherwise new)
-never-0 rs new t = go (number rs) refl
-  where
-    go : (n : ℕ) → number rs ≡ n → Numbered (rs otherwise new)
-    go zero e = subst Numbered (sym (accepted new rs t e)) tt
-    go (suc n) e = let d : number rs ≢ 0 = λ z. omega arith in subst Numbered (sym (not-accepted new rs d)) d
+-- ---- open's refusals look at the gains alone
+refusals-in-gains : (s t : Settings) → s .gains ≡ t .gains → (Q k g : ℕ) → open-refusals (view s) Q k g ≡ open-refusals (view t) Q k g
+refusals-in-gains s t e Q k g =
+    ap (λ (r : Bool). 3 if not (is-spreading-factor Q) ∷ 4 if leb Q k ∷ 5 if bad-gain g ∷ 6 if r ∷ [])
+    (related-in-gains s Q k ∙ ap (λ (gains : List ℕ). some-code (clashes gains Q k)) e ∙ sym (related-in-gains t Q k))
+
+-- ---- one record, where the gains g were opened on bench b, against open on the bench that they make
+module _ (b : Bench) (g : List ℕ) (len : length g ≡ 31) (c : Channel) where
+  abbrev before : Settings
+  before = with-opened b g .settings
+
+  abbrev refusals : List Refusal
+  refusals = open-refusals (view before) (c .q) (c .k) (c .gain)
+
+  abbrev next : Bench
+  next = with-settings b (with-bits (with-gain before (c .q) (c .k) (c .gain)) (c .q) (c .k) [])
+
+  same-number : number refusals ≡ open-number g c
+  same-number = ap number (refusals-in-gains before (with-gains fresh-settings g) refl (c .q) (c .k) (c .gain))
+
+  opens : open-number g c ≡ 0 → (refusals otherwise next) ≡ gives (with-opened b (gains-after g c))
+  unfolding numbered
+  opens e =
+      let z = same-number ∙ e in
+      let p = passed refusals tt z in
+      let r = gain-range (c .gain) (p .1 .1 .0) in
+      let code = good-code (c .q) (c .k) (p .0) (p .1 .0) in
+      accepted next refusals tt z
+      ∙ ap (λ (pairs : List ℕ). gives (with-settings b (with-pairs (with-gains (b .settings) (gains-after g c)) pairs)))
+      (one-more-open g (c .q) (c .k) (c .gain) code (λ n. omega arith) len (b .settings .pairs))
+
+  fails : open-number g c ≢ 0 → (refusals otherwise next) ≡ refused (open-number g c)
+  fails d = not-accepted next refusals (λ z. d (sym same-number ∙ z)) ∙ ap refused same-number
 
 -- so the records are opened in turn
-in-turn : (b : Bench) (place : ℕ) (cs : List Channel) → settled (with-records (all-opened b) place cs) ≡ opened-in-turn place b cs
-unfolding with-records with-record settled opened-in-turn numbered
-in-turn b place [] = refl
-in-turn b place (c ∷ cs) =
-    let refusals = open-refusals (view (b .settings)) (c .q) (c .k) (c .gain) in
-    go (open-call b (c .q) (c .k) (c .gain)) (never-0 refusals _ tt) (λ next. in-turn next (suc place) cs)
+in-turn : (b : Bench) (g : List ℕ) → length g ≡ 31 → (place : ℕ) (cs : List Channel)
+    → settled b (with-records (all-opened g) place cs) ≡ opened-in-turn place (with-opened b g) cs
+unfolding with-records settled opened-in-turn
+in-turn b g len place [] = refl
+in-turn b g len place (c ∷ cs) = go (ℕ-discrete (open-number g c) 0) (in-turn b (gains-after g c) (length-set g _ _ ∙ len) (suc place) cs)
   where
-    go : (a : Answer Bench) → Numbered a
-        → ((next : Bench) → settled (with-records (all-opened next) (suc place) cs) ≡ opened-in-turn (suc place) next cs)
-        → settled (with-records (after-open (outcome a) (left-by a b) place) (suc place) cs)
-        ≡ elim a [ refused n ↦ refused-at n place | gives next ↦ opened-in-turn (suc place) next cs ]
-    go (refused n) d on = ap settled (all-kept _ d (suc place) cs) ∙ settled-refused _ d
-    go (gives next) d on = on next
+    then : Answer Bench → AnswerAt Bench
+    then a = elim a [ refused m ↦ refused-at m place | gives next ↦ opened-in-turn (suc place) next cs ]
 
-pub plan-settled : (b : Bench) (plan : List Channel) → settled (with-records (none-taken b) 0 plan) ≡ load-plan-call b plan
-plan-settled b plan = in-turn _ 0 plan
+    go : Dec (open-number g c ≡ 0)
+        → settled b (with-records (all-opened (gains-after g c)) (suc place) cs) ≡ opened-in-turn (suc place) (with-opened b (gains-after g c)) cs
+        → settled b (with-records (with-record (all-opened g) place c) (suc place) cs) ≡ then (refusals b g len c otherwise next b g len c)
+    go (yes e) on =
+        ap (λ (t : Taken). settled b (with-records t (suc place) cs)) (sym (next-opened (all-opened g) place c refl refl e)) ∙ on
+        ∙ sym (ap then (opens b g len c e))
+    go (no d) on =
+        let failed : Taken = record { gains = g; number = open-number g c; place = place } in
+        ap (λ (t : Taken). settled b (with-records t (suc place) cs)) (sym (next-failed (all-opened g) place c refl refl d))
+        ∙ ap (settled b) (all-kept failed d (suc place) cs) ∙ settled-refused failed d b ∙ sym (ap then (fails b g len c d))
+
+pub plan-settled : (b : Bench) (plan : List Channel) → settled b (with-records none-taken 0 plan) ≡ load-plan-call b plan
+unfolding with-open-cleared any is-leaf-open
+plan-settled b plan = in-turn b (replicate 31 0) refl 0 plan
 
 -- ---- the walk along the list
 -- what `getD` gives past the end

@@ -5,12 +5,10 @@ ghost use mathlib.Core.Path.{_≡_};
 ghost use lib.ListN.{length, take};
 ghost use Rattle.complex.specs.Buffers.{written};
 ghost use Rattle.codes.specs.Refusals.{after, gives, outcome, refused};
-ghost use Rattle.codes.specs.Tree.{is-spreading-factor};
-ghost use mathlib.Core.Bool.{true, cond};
-ghost use mathlib.Core.List.{[]};
-ghost use Prim.Native.Nat.{_<_, _≤_};
+ghost use mathlib.Core.Bool.{cond};
+ghost use Prim.Native.Nat.{_≤_};
 ghost use lib.Dec.{eqb, leb};
-ghost use Rattle.bench.specs.Changes.{no-sync, with-bits, with-gain, with-settings};
+ghost use Rattle.bench.specs.Changes.{no-sync, with-gains, with-pairs, with-settings};
 ghost use Rattle.bench.specs.BenchCalls.{close-call, clear-sync-call, counted, draw-call, fresh, fresh-settings, left-by, load-bits-call, load-plan-call, open-call, plan-left-by, plan-outcome, set-cell-call, set-gain-call, set-sync-call, start-call, told-call, told-draw, told-plan};
 use codes::CellParameter;
 use slot::Settings;
@@ -113,7 +111,8 @@ fn fresh_settings() -> Settings
     }
 }
 
-// The answer of a call whose refusal tests found this number.
+// The answer of a call whose refusal tests found this number. Such a call has one way out, with or without its change: two ways, each with a bench,
+// would be a copy more.
 fn answer(number: u32) -> CallAnswer
     ensures { λ r. ⌜ told-call r ≡ cond (eqb number 0) (gives tt) (refused number) ⌝ }
 {
@@ -153,65 +152,72 @@ impl Bench {
         ensures bench { λ r. ⌜ r .bench ≡ left-by (set-cell-call self cell kind) self ⌝ }
     {
         let number = refusals::set_cell(cell, kind);
-        if number != 0 {
-            return Answered {
-                answer: CallAnswer::Refused(number),
-                bench: self,
-            };
-        }
         let silent = no_sync();
         let mut s = self.settings;
-        s.cell = cell;
-        s.kind = kind;
-        s.gains = [0u16; 31];
-        s.sync = silent;
+        let mut new_cell = s.cell;
+        let mut new_kind = s.kind;
+        let mut new_gains = s.gains;
+        let old_sync = s.sync;
+        let mut new_sync = old_sync;
+        if number == 0 {
+            new_cell = cell;
+            new_kind = kind;
+            new_gains = [0u16; 31];
+            new_sync = silent;
+        }
+        s.cell = new_cell;
+        s.kind = new_kind;
+        s.gains = new_gains;
+        s.sync = new_sync;
         self.settings = s;
         Answered {
-            answer: CallAnswer::Accepted,
+            answer: answer(number),
             bench: self,
         }
     }
 
-    // Code (q, k) with this gain, which is 0 where it is closed, and with bits all 0 where they are cleared.
-    fn with_code(mut self, q: u32, k: u32, gain: u32, cleared: bool) -> Bench
-        requires { ⌜ (is-spreading-factor q ≡ true) × (k < q) × (gain ≤ 4095) ⌝ }
-        ensures { λ r. ⌜ r ≡ with-settings self (cond cleared (with-bits (with-gain (self .settings) q k gain) q k []) (with-gain (self .settings) q k gain)) ⌝ }
+    // With these gains and pairs. The type is stored again so that the settings are moved part by part and not as a whole: a part that is a number
+    // keeps the compiler from a copy of them on the stack.
+    fn with_tables(mut self, gains: [u16; 31], pairs: [u8; 2208]) -> Bench
+        ensures { λ r. ⌜ r ≡ with-settings self (with-pairs (with-gains (self .settings) gains) pairs) ⌝ }
     {
         let mut s = self.settings;
-        let node = tables::node(q, k);
-        s.gains[node] = gain as u16;
-        if cleared {
-            tables::set_bits(&mut s.pairs, q, k, b"");
-        }
+        let kind = s.kind;
+        s.kind = kind;
+        s.gains = gains;
+        s.pairs = pairs;
         self.settings = s;
         self
     }
 
     // Opens code (q, k) with bits all 0. Refuses 3 bad q; 4 k not below q; 5 gain not 1 to 4095; 6 related to an open code.
-    pub fn open(mut self, q: u32, k: u32, gain: u32) -> Answered
+    pub fn open(self, q: u32, k: u32, gain: u32) -> Answered
         ensures answer { λ r. ⌜ told-call (r .answer) ≡ outcome (open-call self q k gain) ⌝ }
         ensures bench { λ r. ⌜ r .bench ≡ left-by (open-call self q k gain) self ⌝ }
     {
-        let number = refusals::open(self.settings, q, k, gain);
-        if number != 0 {
-            return Answered {
-                answer: CallAnswer::Refused(number),
-                bench: self,
-            };
+        let s = self.settings;
+        let mut gains = s.gains;
+        let mut pairs = s.pairs;
+        let number = refusals::open(&gains, q, k, gain);
+        if number == 0 {
+            gains = tables::with_gain(gains, q, k, gain);
+            // The gains of a bench that has this code alone.
+            let alone = tables::with_gain([0u16; 31], q, k, 1);
+            tables::clear_open(&mut pairs, &alone);
         }
         Answered {
-            answer: CallAnswer::Accepted,
-            bench: self.with_code(q, k, gain, true),
+            answer: answer(number),
+            bench: self.with_tables(gains, pairs),
         }
     }
 
     // Replaces all open codes by those of the plan, with bits all 0, or changes nothing. Refuses 3, 4, 5, 6 as open would for the first
     // record that fails, taken in order against earlier records only, with that record's place.
-    pub fn load_plan(mut self, plan: &[Channel]) -> Planned
+    pub fn load_plan(self, plan: &[Channel]) -> Planned
         ensures answer { λ r. ⌜ told-plan (r .answer) ≡ plan-outcome (load-plan-call self (now (plan .entry))) ⌝ }
         ensures bench { λ r. ⌜ r .bench ≡ plan-left-by (load-plan-call self (now (plan .entry))) self ⌝ }
     {
-        let mut taken = taken::none(self);
+        let mut taken = taken::none();
         let mut i = 0;
         while i < plan.len() {
             taken = taken.with_record(i, plan[i]);
@@ -239,56 +245,57 @@ impl Bench {
     }
 
     // Refuses 3; 4; 7 code not open.
-    pub fn close(mut self, q: u32, k: u32) -> Answered
+    pub fn close(self, q: u32, k: u32) -> Answered
         ensures answer { λ r. ⌜ told-call (r .answer) ≡ outcome (close-call self q k) ⌝ }
         ensures bench { λ r. ⌜ r .bench ≡ left-by (close-call self q k) self ⌝ }
     {
-        let number = refusals::close(self.settings, q, k);
-        if number != 0 {
-            return Answered {
-                answer: CallAnswer::Refused(number),
-                bench: self,
-            };
+        let s = self.settings;
+        let mut gains = s.gains;
+        let number = refusals::close(&gains, q, k);
+        if number == 0 {
+            gains = tables::with_gain(gains, q, k, 0);
         }
+        let pairs = s.pairs;
         Answered {
-            answer: CallAnswer::Accepted,
-            bench: self.with_code(q, k, 0, false),
+            answer: answer(number),
+            bench: self.with_tables(gains, pairs),
         }
     }
 
     // Keeps the bits. Refuses 3; 4; 5; 7.
-    pub fn set_gain(mut self, q: u32, k: u32, gain: u32) -> Answered
+    pub fn set_gain(self, q: u32, k: u32, gain: u32) -> Answered
         ensures answer { λ r. ⌜ told-call (r .answer) ≡ outcome (set-gain-call self q k gain) ⌝ }
         ensures bench { λ r. ⌜ r .bench ≡ left-by (set-gain-call self q k gain) self ⌝ }
     {
-        let number = refusals::set_gain(self.settings, q, k, gain);
-        if number != 0 {
-            return Answered {
-                answer: CallAnswer::Refused(number),
-                bench: self,
-            };
+        let s = self.settings;
+        let mut gains = s.gains;
+        let number = refusals::set_gain(&gains, q, k, gain);
+        if number == 0 {
+            gains = tables::with_gain(gains, q, k, gain);
         }
+        let kept = s.pairs;
         Answered {
-            answer: CallAnswer::Accepted,
-            bench: self.with_code(q, k, gain, false),
+            answer: answer(number),
+            bench: self.with_tables(gains, kept),
         }
     }
 
     // One byte a bit. Refuses 3; 4; 7; 8 count not 2(F1+F2)/q, F1 and F2 being the field lengths; 9 a byte above 1.
-    pub fn load_bits(mut self, q: u32, k: u32, bits: &[u8]) -> Answered
+    pub fn load_bits(self, q: u32, k: u32, bits: &[u8]) -> Answered
         ensures answer { λ r. ⌜ told-call (r .answer) ≡ outcome (load-bits-call self q k (now (bits .entry))) ⌝ }
         ensures bench { λ r. ⌜ r .bench ≡ left-by (load-bits-call self q k (now (bits .entry))) self ⌝ }
     {
-        let mut s = self.settings;
-        let number = refusals::load_bits(s, q, k, bits);
+        let s = self.settings;
+        let gains = s.gains;
+        let mut pairs = s.pairs;
+        let number = refusals::load_bits(&gains, s.kind, q, k, bits);
         // Nothing is written before every test has passed.
         if number == 0 {
-            tables::set_bits(&mut s.pairs, q, k, bits);
+            tables::set_bits(&mut pairs, q, k, bits);
         }
-        self.settings = s;
         Answered {
             answer: answer(number),
-            bench: self,
+            bench: self.with_tables(gains, pairs),
         }
     }
 
@@ -328,6 +335,9 @@ impl Bench {
     {
         let none = no_sync();
         let mut quiet = self.settings;
+        // As in `with_tables`.
+        let kind = quiet.kind;
+        quiet.kind = kind;
         quiet.sync = none;
         self.settings = quiet;
         Answered {
@@ -337,23 +347,32 @@ impl Bench {
     }
 
     // Copies the settings: the slot that starts keeps them, whatever calls follow. Refuses 10 slot under way.
-    pub fn start(mut self) -> Answered
+    pub fn start(self) -> Answered
         ensures answer { λ r. ⌜ told-call (r .answer) ≡ outcome (start-call self) ⌝ }
         ensures bench { λ r. ⌜ r .bench ≡ left-by (start-call self) self ⌝ }
     {
-        if self.running != 0 {
-            return Answered {
-                answer: CallAnswer::Refused(10),
-                bench: self,
-            };
+        let settings = self.settings;
+        let mut sending = self.sending;
+        let mut running = self.running;
+        let mut position = self.position;
+        let mut number = 10;
+        if running == 0 {
+            sending = settings;
+            running = 1;
+            position = 0;
+            number = 0;
         }
-        let s = self.settings;
-        self.sending = s;
-        self.running = 1;
-        self.position = 0;
+        // As in `with_tables`.
+        let kind = sending.kind;
+        sending.kind = kind;
         Answered {
-            answer: CallAnswer::Accepted,
-            bench: self,
+            answer: answer(number),
+            bench: Bench {
+                settings: settings,
+                running: running,
+                sending: sending,
+                position: position,
+            },
         }
     }
 

@@ -1,16 +1,19 @@
-// The refusals of the bench's calls: a call's number from document 01, or 0.
+// The refusals of the bench's calls: a call's number from document 01, or 0. Where codes are asked for, the gains are lent and not the settings
+// that hold them, which are forty times as large: the number is that of any settings with these gains.
 ghost use mathlib.Core.Path.{_≡_};
 ghost use mathlib.Core.Bool.{cond};
 ghost use Prim.Native.Nat.{_<_, _≤_};
 ghost use lib.Dec.{eqb};
 ghost use Rattle.codes.specs.Range.{any};
 ghost use Rattle.codes.specs.Refusals.{number};
+ghost use Rattle.slot.specs.declared.Settings.{Settings};
 ghost use Rattle.slot.specs.Slot.{bit-count};
 ghost use Rattle.slot.specs.Tables.{view};
 ghost use Rattle.bench.specs.BenchCalls.{bad-gain, close-refusals, load-bits-refusals, open-refusals, set-cell-refusals, set-gain-refusals, set-sync-refusals, some-code};
-ghost use Rattle.bench.specs.Held.{clashes, code-refusals, open-at};
+ghost use Rattle.bench.specs.Held.{clashes, code-refusals};
 use crate::bits::has_byte_above_1;
-use crate::tables::node;
+use crate::tables::any_of_five;
+use crate::tables::is_open;
 use codes::CellParameter;
 use codes::tree;
 use slot::Settings;
@@ -51,14 +54,6 @@ fn is_bad_gain(gain: u32) -> bool
     gain < 1 || 4095 < gain
 }
 
-// Whether code (q, k) is open.
-fn is_open(gains: &[u16; 31], q: u32, k: u32) -> bool
-    requires { ⌜ (k < q) × (q ≤ 16) ⌝ }
-    ensures { λ r. ⌜ r ≡ open-at (now (gains .entry)) q k ⌝ }
-{
-    gains[node(q, k)] != 0
-}
-
 // Whether code (q2, k2) is open and related to (q, k).
 fn clashes(gains: &[u16; 31], q: u32, k: u32, q2: u32, k2: u32) -> bool
     requires { ⌜ (k2 < q2) × (q2 ≤ 16) ⌝ }
@@ -83,15 +78,17 @@ fn any_clash(gains: &[u16; 31], q: u32, k: u32, q2: u32) -> bool
 fn is_related_to_open(gains: &[u16; 31], q: u32, k: u32) -> bool
     ensures { λ r. ⌜ r ≡ some-code (clashes (now (gains .entry)) q k) ⌝ }
 {
-    any_clash(gains, q, k, 1)
-        || any_clash(gains, q, k, 2)
-        || any_clash(gains, q, k, 4)
-        || any_clash(gains, q, k, 8)
-        || any_clash(gains, q, k, 16)
+    any_of_five(
+        any_clash(gains, q, k, 1),
+        any_clash(gains, q, k, 2),
+        any_clash(gains, q, k, 4),
+        any_clash(gains, q, k, 8),
+        any_clash(gains, q, k, 16),
+    )
 }
 
-pub fn open(s: Settings, q: u32, k: u32, gain: u32) -> u32
-    ensures { λ r. ⌜ r ≡ number (open-refusals (view s) q k gain) ⌝ }
+pub fn open(gains: &[u16; 31], q: u32, k: u32, gain: u32) -> u32
+    ensures { λ r. ⌜ ((s : Settings) → s .gains ≡ now (gains .entry) → r ≡ number (open-refusals (view s) q k gain)) ⌝ }
 {
     let number = code(q, k);
     if number != 0 {
@@ -100,27 +97,27 @@ pub fn open(s: Settings, q: u32, k: u32, gain: u32) -> u32
     if is_bad_gain(gain) {
         return 5;
     }
-    if is_related_to_open(&s.gains, q, k) {
+    if is_related_to_open(gains, q, k) {
         return 6;
     }
     0
 }
 
-pub fn close(s: Settings, q: u32, k: u32) -> u32
-    ensures { λ r. ⌜ r ≡ number (close-refusals (view s) q k) ⌝ }
+pub fn close(gains: &[u16; 31], q: u32, k: u32) -> u32
+    ensures { λ r. ⌜ ((s : Settings) → s .gains ≡ now (gains .entry) → r ≡ number (close-refusals (view s) q k)) ⌝ }
 {
     let number = code(q, k);
     if number != 0 {
         return number;
     }
-    if !is_open(&s.gains, q, k) {
+    if !is_open(gains, q, k) {
         return 7;
     }
     0
 }
 
-pub fn set_gain(s: Settings, q: u32, k: u32, gain: u32) -> u32
-    ensures { λ r. ⌜ r ≡ number (set-gain-refusals (view s) q k gain) ⌝ }
+pub fn set_gain(gains: &[u16; 31], q: u32, k: u32, gain: u32) -> u32
+    ensures { λ r. ⌜ ((s : Settings) → s .gains ≡ now (gains .entry) → r ≡ number (set-gain-refusals (view s) q k gain)) ⌝ }
 {
     let number = code(q, k);
     if number != 0 {
@@ -129,7 +126,7 @@ pub fn set_gain(s: Settings, q: u32, k: u32, gain: u32) -> u32
     if is_bad_gain(gain) {
         return 5;
     }
-    if !is_open(&s.gains, q, k) {
+    if !is_open(gains, q, k) {
         return 7;
     }
     0
@@ -144,15 +141,15 @@ fn bit_count(kind: u32, q: u32) -> usize
     2 * (p.field1 + p.field2) / q as usize
 }
 
-pub fn load_bits(s: Settings, q: u32, k: u32, bits: &[u8]) -> u32
-    ensures { λ r. ⌜ r ≡ number (load-bits-refusals (view s) q k (now (bits .entry))) ⌝ }
+pub fn load_bits(gains: &[u16; 31], kind: u32, q: u32, k: u32, bits: &[u8]) -> u32
+    ensures { λ r. ⌜ ((s : Settings) → s .gains ≡ now (gains .entry) → s .kind ≡ kind → r ≡ number (load-bits-refusals (view s) q k (now (bits .entry)))) ⌝ }
 {
     // 3, 4 and 7, as close has them.
-    let number = close(s, q, k);
+    let number = close(gains, q, k);
     if number != 0 {
         return number;
     }
-    if bits.len() != bit_count(s.kind, q) {
+    if bits.len() != bit_count(kind, q) {
         return 8;
     }
     if has_byte_above_1(bits) {

@@ -1,74 +1,85 @@
 // What load plan has taken of its records so far. The rules are here; `load_plan` walks the list.
 ghost use mathlib.Core.Path.{_≡_};
-ghost use Rattle.bench.specs.BenchCalls.{plan-left-by, plan-outcome, told-plan};
+ghost use mathlib.Core.Bool.{cond};
+ghost use lib.Dec.{eqb};
+ghost use Rattle.bench.specs.BenchCalls.{loads, plan-left-by, plan-outcome, refused-at, told-plan};
 ghost use Rattle.bench.specs.Taken.{none-taken, settled, with-record};
 use crate::Bench;
-use crate::CallAnswer;
 use crate::Channel;
 use crate::PlanAnswer;
 use crate::Planned;
+use crate::refusals;
+use crate::tables;
 
-// `bench` is what the records made, up to the first that failed; `number` and `place` are that record's, and 0 while none has.
+// `gains` are those of the codes that the records opened, up to the first that failed; `number` and `place` are that record's, and 0 while none
+// has. The records are tested against these gains alone, and the bench is built once, from the last of them.
 pub struct Taken {
-    pub bench: Bench,
+    pub gains: [u16; 31],
     pub number: u32,
     pub place: usize,
 }
 
 // No record yet: every code is closed.
-pub fn none(mut bench: Bench) -> Taken
-    ensures { λ r. ⌜ r ≡ none-taken bench ⌝ }
+pub fn none() -> Taken
+    ensures { λ r. ⌜ r ≡ none-taken ⌝ }
 {
-    let mut s = bench.settings;
-    s.gains = [0u16; 31];
-    bench.settings = s;
     Taken {
-        bench: bench,
+        gains: [0u16; 31],
         number: 0,
         place: 0,
     }
 }
 
+// The answer to a plan whose records left this number and place.
+fn answer(number: u32, place: usize) -> PlanAnswer
+    ensures { λ r. ⌜ told-plan r ≡ cond (eqb number 0) (loads tt) (refused-at number place) ⌝ }
+{
+    match number {
+        0 => PlanAnswer::Loaded,
+        _ => PlanAnswer::Refused(number, place),
+    }
+}
+
 impl Taken {
     // The next record, which stands at `place`: opened, unless one before it failed.
-    pub fn with_record(mut self, place: usize, c: Channel) -> Taken
+    pub fn with_record(self, place: usize, c: Channel) -> Taken
         ensures { λ r. ⌜ r ≡ with-record self place c ⌝ }
     {
         if self.number != 0 {
             return self;
         }
-        let opened = self.bench.open(c.q, c.k, c.gain);
-        let bench = opened.bench;
-        let answer = opened.answer;
-        match answer {
-            CallAnswer::Accepted => Taken {
-                bench: bench,
-                number: 0,
-                place: 0,
-            },
-            CallAnswer::Refused(n) => Taken {
-                bench: bench,
-                number: n,
+        let gains = self.gains;
+        let number = refusals::open(&gains, c.q, c.k, c.gain);
+        if number != 0 {
+            return Taken {
+                gains: gains,
+                number: number,
                 place: place,
-            },
+            };
+        }
+        let opened = tables::with_gain(gains, c.q, c.k, c.gain);
+        Taken {
+            gains: opened,
+            number: 0,
+            place: 0,
         }
     }
 
-    // The answer to a plan of these records, with the bench that they made, or `old` where one failed.
+    // The answer to a plan of these records, with the bench that they make of `old`, or `old` where one failed.
     pub fn settled(self, old: Bench) -> Planned
-        ensures answer { λ r. ⌜ told-plan (r .answer) ≡ plan-outcome (settled self) ⌝ }
-        ensures bench { λ r. ⌜ r .bench ≡ plan-left-by (settled self) old ⌝ }
+        ensures answer { λ r. ⌜ told-plan (r .answer) ≡ plan-outcome (settled old self) ⌝ }
+        ensures bench { λ r. ⌜ r .bench ≡ plan-left-by (settled old self) old ⌝ }
     {
-        let new = self.bench;
+        let s = old.settings;
+        let mut pairs = s.pairs;
+        let mut gains = s.gains;
         if self.number == 0 {
-            return Planned {
-                answer: PlanAnswer::Loaded,
-                bench: new,
-            };
+            gains = self.gains;
+            tables::clear_open(&mut pairs, &gains);
         }
         Planned {
-            answer: PlanAnswer::Refused(self.number, self.place),
-            bench: old,
+            answer: answer(self.number, self.place),
+            bench: old.with_tables(gains, pairs),
         }
     }
 }

@@ -1,4 +1,5 @@
 -- `load_bits` meets its contract: a refusal, or the bits. Assumes nothing.
+use mathlib.Core.Path.{refl}
 use mathlib.Core.Logic.{⊎-elim}
 use mathlib.Core.List.{List}
 use borrow.Author.Needs.{needs}
@@ -18,22 +19,23 @@ refusals c = let s = c .args in load-bits-refusals (view (s .self .settings)) (s
 set-bits-requires : tie.Need-set-bits-requires
 unfolding numbered
 set-bits-requires c κs =
-    let s = c .before .before .before .before .before in
+    let t = c .before in
+    let s = t .before .before .before .before .before .before .before in
     load-passed (view (s .args .self .settings)) (s .args .q) (s .args .k) (s .args .bits .now)
-    (passed-all (refusals s) (c .before .before .load-bits .ensures) tt (c .before .if1 .taken))
+    (passed-all (refusals s) (t .before .load-bits .ensures _ refl refl) tt (t .if1 .taken))
 
 -- nothing was written unless the number is 0
 returns : tie.Need-returns
 unfolding numbered
 returns c =
-    let j = c .before in
-    let r = j .before .load-bits in
-    let s = j .before .before .before .before in
+    let j = c .before .before in
+    let n = j .before .load-bits in
+    let s = j .before .before .before .before .before .before .before in
     let b = s .args .self in
     ⊎-elim
-    (λ w. rw (c .answer .ensures, eq-eqb _ _ (w .0 .taken), w .3, w .2 .ensures) (call-accepted (refusals s) b _ (r .ensures) tt (w .0 .taken)))
-    (λ w. rw (c .answer .ensures, ne-eqb _ _ (w .0 .left), w .1) (call-refused (refusals s) b _ (r .ensures) (w .0 .left)))
+    (λ w. rw (c .with-tables .ensures, c .before .answer .ensures, eq-eqb _ _ (w .0 .taken), w .3, w .2 .ensures) (call-accepted (refusals s) b _ (n .ensures _ refl refl) tt (w .0 .taken)))
+    (λ w. rw (c .with-tables .ensures, c .before .answer .ensures, ne-eqb _ _ (w .0 .left), w .1) (call-refused (refusals s) b _ (n .ensures _ refl refl) (w .0 .left)))
     (j .if1 .came)
 
 pub load-bits-spec : {M : Type 1} → statement M
-load-bits-spec = tie.close (tie.spec (λ c κs. search needs) set-bits-requires (λ c κs. search needs) returns)
+load-bits-spec = tie.close (tie.spec (λ c κs. search needs) set-bits-requires (λ c κs. search needs) (λ c κs. search needs) returns)

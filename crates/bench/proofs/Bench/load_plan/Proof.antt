@@ -22,7 +22,7 @@ use prog.Wp.{Heap, Out, Env, afterSeq, afterBlock, afterTurn, Calls, Loops, Wp, 
 use ghost.Atoms.{Atoms, sem}
 use contract.Monad.{Fun, fact}
 use contract.Running.{givenOf, tables, tablesOf}
-use types.Kit.{Given, Item, Sq, runs, ‵, raw, _⊛_, ⋆, anyQ, atRet, _$_, _∵_, !, qed, by, move, keep, drop, use1, use2, split, join, rewrite, fsplit, fjoin, suffices, frame, done}
+use types.Kit.{Given, Item, Sq, runs, ‵, raw, _⊛_, ⋆, anyQ, atRet, _$_, _∵_, !, qed, by, move, keep, drop, use0, use1, use2, split, join, rewrite, fsplit, fjoin, suffices, frame, done}
 use types.Part.{whole, sub, look-in}
 use types.Run.{look, look-raw, store, init, forget, stop, hop, fld, from, load, lit, of-opd, bin, and-then, no-more, land, assigns, assigns-last, first, blocks, branches, skips, jumps, loops, again, Below, returns, enter, alloc1, alloc0, params1, pass1, pass0, free1, free0, exec}
 use types.Share.{arr-parts}
@@ -101,7 +101,7 @@ record State (d : Bench) (ys : List Channel) : Type 0 where
   pub i : ℕ
   pub t : Taken
   pub v : Val
-  pub same : settled (with-records t i (dropN i ys)) ≡ load-plan-call d ys
+  pub same : settled d (with-records t i (dropN i ys)) ≡ load-plan-call d ys
 
 module _ (d : Bench) (ys : List Channel) where
   abbrev Nearer : State d ys → State d ys → Type 0
@@ -110,17 +110,17 @@ module _ (d : Bench) (ys : List Channel) where
   nearer-wf : WellFounded Nearer
   nearer-wf = InvImage·wf (λ (s : State d ys). length ys - s .i) (Nat·lt-wfRel .wf)
 
-  abbrev start : (r : Taken) (v : Val) → r ≡ none-taken d → State d ys
-  start r v e = record { i = 0; t = r; v = v; same = ap (λ (t : Taken). settled (with-records t 0 ys)) e ∙ plan-settled d ys }
+  abbrev start : (r : Taken) (v : Val) → r ≡ none-taken → State d ys
+  start r v e = record { i = 0; t = r; v = v; same = ap (λ (t : Taken). settled d (with-records t 0 ys)) e ∙ plan-settled d ys }
 
   abbrev next : (s : State d ys) (r : Taken) (v : Val) → s .i < length ys → r ≡ with-record (s .t) (s .i) (getD ys (s .i) no-record) → State d ys
-  next s r v l e = record { i = s .i + 1; t = r; v = v; same = ap settled (one-more (s .t) ys (s .i) l e) ∙ s .same }
+  next s r v l e = record { i = s .i + 1; t = r; v = v; same = ap (settled d) (one-more (s .t) ys (s .i) l e) ∙ s .same }
 
   -- once all of ys is taken
-  all-taken : (s : State d ys) (r : Planned) → length ys ≤ s .i → Answers (settled (s .t)) d r → Answers (load-plan-call d ys) d r
+  all-taken : (s : State d ys) (r : Planned) → length ys ≤ s .i → Answers (settled d (s .t)) d r → Answers (load-plan-call d ys) d r
   unfolding with-records
   all-taken s r l e =
-      let ends : settled (s .t) ≡ load-plan-call d ys = ap (λ (cs : List Channel). settled (with-records (s .t) (s .i) cs)) (sym (drop-of-length-le ys l)) ∙ s .same in
+      let ends : settled d (s .t) ≡ load-plan-call d ys = ap (λ (cs : List Channel). settled d (with-records (s .t) (s .i) cs)) (sym (drop-of-length-le ys l)) ∙ s .same in
       subst (λ a. Answers a d r) ends e
 
 -- a turn after its test
@@ -163,15 +163,15 @@ module _ {M : Type 1} (𝓤 : URA M) (H : Heap 𝓤) (A : Atoms 𝓤) (W : Given
   abbrev Settled : Contract 𝓤
   Settled = tripleOf 𝓤 H A settled′.signature (settled′.spec 𝓤 H A mem run)
 
-  none-said : (d : Bench) (r : Taken) → ent 𝓤 (ensured 𝓤 H A none.ended (none.clauses 𝓤 H A mem run) tt (d, tt) tt r) (fact 𝓤 (r ≡ none-taken d))
-  none-said d r = exE 𝓤 _ (λ ws. snd∗ 𝓤 (sem 𝓤 H A (lasts none.ended tt (d, tt) ws)) (fact 𝓤 (r ≡ none-taken d)))
+  none-said : (r : Taken) → ent 𝓤 (ensured 𝓤 H A none.ended (none.clauses 𝓤 H A mem run) tt tt tt r) (fact 𝓤 (r ≡ none-taken))
+  none-said r = exE 𝓤 _ (λ ws. snd∗ 𝓤 (sem 𝓤 H A (lasts none.ended tt tt ws)) (fact 𝓤 (r ≡ none-taken)))
 
   record-said : (t : Taken) (i : ℕ) (c : Channel) (r : Taken)
       → ent 𝓤 (ensured 𝓤 H A record′.ended (record′.clauses 𝓤 H A mem run) tt (t, (i, (c, tt))) tt r) (fact 𝓤 (r ≡ with-record t i c))
   record-said t i c r = exE 𝓤 _ (λ ws. snd∗ 𝓤 (sem 𝓤 H A (lasts record′.ended tt (t, (i, (c, tt))) ws)) (fact 𝓤 (r ≡ with-record t i c)))
 
   settled-said : (t : Taken) (d : Bench) (r : Planned)
-      → ent 𝓤 (ensured 𝓤 H A settled′.ended (settled′.clauses 𝓤 H A mem run) tt (t, (d, tt)) tt r) (fact 𝓤 (Answers (settled t) d r))
+      → ent 𝓤 (ensured 𝓤 H A settled′.ended (settled′.clauses 𝓤 H A mem run) tt (t, (d, tt)) tt r) (fact 𝓤 (Answers (settled d t) d r))
   settled-said t d r = exE 𝓤 _ (λ ws. via 𝓤 _ (snd∗ 𝓤 (sem 𝓤 H A (lasts settled′.ended tt (t, (d, tt)) ws)) _) (one-fact 𝓤 _ _))
 
   module _ (κ : Lft) (q : Share) (d : Bench) (b o : ℕ) (γ : GName) (ys : List Channel) where
@@ -206,10 +206,10 @@ module _ {M : Type 1} (𝓤 : URA M) (H : Heap 𝓤) (A : Atoms 𝓤) (W : Given
 
     -- ---- the calls: what each is passed, and what it asks
     abbrev to-none : None .Ghost
-    to-none = ((tt, tt, tt, (d, tt), (mach ∷ [], tt)), tt)
+    to-none = ((tt, tt, tt, tt, tt), tt)
 
-    goes-to-none : ent 𝓤 (⋆ 𝓤 H A (‵ OwnB ∷ [])) (None .pre to-none)
-    goes-to-none = qed W (‵ OwnB ∷ []) ∵ nothing ! $ move ! (1 ∷ 0 ∷ []) $ fjoin ! $ nothing ! $ join ! $ frame ! $ done !
+    goes-to-none : ent 𝓤 (emp 𝓤) (None .pre to-none)
+    goes-to-none = qed W [] ∵ nothing ! $ nothing ! $ join ! $ frame ! $ done !
 
     abbrev to-record : Taken → Val → ℕ → Channel → Val → Record .Ghost
     to-record t v i c u = ((tt, tt, tt, (t, (i, (c, tt))), (v ∷ [], (vint w64 i ∷ [], (u ∷ [], tt)))), tt)
@@ -337,12 +337,11 @@ module _ {M : Type 1} (𝓤 : URA M) (H : Heap 𝓤) (A : Atoms 𝓤) (W : Given
         begun : ent 𝓤 (⋆ 𝓤 H A Passed) (Wp 𝓤 H C Λ En parts.t-1 (atReturn 𝓤 H En Post))
         begun =
             qed W Passed ∵ exec ! C Λ En parts.t-1 (atRet En Post) $
-            move ! (19 ∷ []) $ fsplit ! $ use1 W (‵ OwnB ⊛ ‵ OwnB) (LL.copy B.the-type B′.the-copy 𝓤 H A W .twice d (mach ∷ [])) $ split ! $
-            use1 W (raw (None .pre to-none)) goes-to-none $
+            move ! (19 ∷ []) $ fsplit ! $ use0 W (raw (None .pre to-none)) goes-to-none $
             -- [what none asks; what self owns; what plan owns, and true; room for _8; …; _7; …; _6; …; _5; …; _4; …; _3; …; _2; …; _1; …; room for
             -- _0; …; the token]
-            calls-at ! fm None known-none to-none (and-then ! (load ! (from ! (stop !)) (look ! 17 refl)) (no-more !)) (λ v.
-            answers W ! tt T.the-row (‵ ftrue) (none-said d) v (λ r e is. drop ! $
+            calls-at ! fm None known-none to-none (no-more !) (λ v.
+            answers W ! tt T.the-row (‵ ftrue) none-said v (λ r e is. drop ! $
             land ! (from ! (stop !)) (init ! 13 refl (LL.lawful T.the-type T′.the-laws 𝓤 H A W .typed r _ is .0)) $
             assigns ! (of-opd ! (lit ! tt)) (from ! (stop !)) (init ! 11 refl (tt, record { fits = lit< tt })) $
             move ! (2 ∷ []) $ fsplit ! $ use1 W (‵ OwnS ⊛ ‵ OwnS) (shr-slice-copy 𝓤 H A W (named 0) κ R.the-row .twice p (sliceVal (b, o) n ∷ [])) $ split ! $

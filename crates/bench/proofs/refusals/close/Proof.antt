@@ -6,6 +6,7 @@ use borrow.Author.Needs.{needs}
 use lib.ListN.{drop}
 use Rattle.codes.specs.Refusals.{Refusal, number}
 use Rattle.codes.proofs.Refused.{numbered}
+use Rattle.slot.specs.declared.Settings.{Settings}
 use Rattle.slot.specs.Tables.{view}
 use Rattle.bench.specs.BenchCalls.{close-refusals}
 use Rattle.bench.specs.Held.{code-refusals}
@@ -14,38 +15,39 @@ use Rattle.bench.proofs.Opened.{open-in-gains}
 use Rattle.bench.proofs.refusals.close.Statement.{statement}
 use Rattle.bench.proofs.refusals.close.Tie as tie
 
-abbrev refusals : tie.Start → List Refusal
-refusals c = let s = c .args in close-refusals (view (s .t1)) (s .q) (s .k)
+abbrev refusals : tie.Start → Settings → List Refusal
+refusals c t = let s = c .args in close-refusals (view t) (s .q) (s .k)
 
 code-requires : tie.Need-code-requires
 code-requires c κs = search needs
 
 returns : tie.Need-returns
-returns c =
+returns c t g =
     let s = c .before .before in
-    refused-first (code-refusals (s .args .q) (s .args .k)) (c .before .code .ensures) (drop 2 (refusals s)) (c .if1 .taken)
+    refused-first (code-refusals (s .args .q) (s .args .k)) (c .before .code .ensures) (drop 2 (refusals s t)) (c .if1 .taken)
 
 -- 3 and 4 have passed
 code : (c : tie.Else1) → let s = c .before .before .args in Code (s .q) (s .k)
 code c = let s = c .before .before .args in found-code (s .q) (s .k) (c .before .code .ensures) (c .if1 .left)
 
 is-open-requires : tie.Need-is-open-requires
-is-open-requires c κs = let h = code (c .before .before) in (h .below, h .small)
+is-open-requires c κs = let h = code c in (h .below, h .small)
 
 -- the last test
-last : (c : tie.After-is-open) → number (refusals (c .before .before .before .before .before)) ≡ cond (not (c .is-open .result)) 7 0
+last : (c : tie.After-is-open) (t : Settings) → let s = c .before .before .before in
+    t .gains ≡ s .args .gains .now → number (refusals s t) ≡ cond (not (c .is-open .result)) 7 0
 unfolding numbered
-last c =
-    let d = c .before .before .before in
+last c t g =
+    let d = c .before in
     let s = d .before .before in
-    passed-first (code-refusals (s .args .q) (s .args .k)) (d .before .code .ensures) (drop 2 (refusals s)) tt (d .if1 .left)
-    ∙ rw (open-in-gains (s .args .t1) (s .args .q) (s .args .k) (code d .listed), c .is-open .ensures)
+    passed-first (code-refusals (s .args .q) (s .args .k)) (d .before .code .ensures) (drop 2 (refusals s t)) tt (d .if1 .left)
+    ∙ rw (open-in-gains t (s .args .q) (s .args .k) (code d .listed), g, c .is-open .ensures)
 
 returns-2 : tie.Need-returns-2
-returns-2 c = sym (last (c .before) ∙ ap (λ (t : Bool). cond t 7 0) (c .if2 .taken))
+returns-2 c t g = sym (last (c .before) t g ∙ ap (λ (t : Bool). cond t 7 0) (c .if2 .taken))
 
 returns-3 : tie.Need-returns-3
-returns-3 c = sym (last (c .before) ∙ ap (λ (t : Bool). cond t 7 0) (c .if2 .left))
+returns-3 c t g = sym (last (c .before) t g ∙ ap (λ (t : Bool). cond t 7 0) (c .if2 .left))
 
 pub close-spec : {M : Type 1} → statement M
 close-spec = tie.close (tie.spec code-requires returns is-open-requires returns-2 returns-3)

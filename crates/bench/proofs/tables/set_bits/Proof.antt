@@ -1,5 +1,5 @@
 -- `set_bits` meets its contract. The loop's invariant: the first m blocks are written; the length of an array behind a reference is known
--- from the first `put_pairs` on. Assumes nothing.
+-- from the first `put_part` on. Assumes nothing.
 use mathlib.Core.Path.{_≡_}
 use Prim.Native.Nat.{_+_, _*_, _-_, _≤_, _<_}
 use native.Mathlib.Nat.{mul-le-mul-right}
@@ -42,17 +42,17 @@ mul-from c = omega (arith, inside c)
 loop-holds : tie.Need-loop-holds Inv-loop μ-loop
 loop-holds c = (omega arith, λ l. absurd (omega arith), no-block _ _ _ _)
 
-mul-put-pairs : tie.Need-mul-put-pairs Inv-loop μ-loop
-mul-put-pairs c = omega arith
+mul-put-part : tie.Need-mul-put-part Inv-loop μ-loop
+mul-put-part c = omega arith
 
-add-put-pairs : tie.Need-add-put-pairs Inv-loop μ-loop
-add-put-pairs c = omega (arith, inside (c .before .before .before))
+add-put-part : tie.Need-add-put-part Inv-loop μ-loop
+add-put-part c = omega (arith, inside (c .before .before .before))
 
-mul-put-pairs-2 : tie.Need-mul-put-pairs-2 Inv-loop μ-loop
-mul-put-pairs-2 c = omega (arith, enough (c .before))
+mul-put-part-2 : tie.Need-mul-put-part-2 Inv-loop μ-loop
+mul-put-part-2 c = omega (arith, enough (c .before))
 
-put-pairs-requires : tie.Need-put-pairs-requires Inv-loop μ-loop
-put-pairs-requires c κs =
+put-part-requires : tie.Need-put-part-requires Inv-loop μ-loop
+put-part-requires c κs =
     let s = c .before .before .before .before .before in
     (omega (arith, inside (c .before .before .before)), enough (c .before), s .pre .2, s .pre .3)
 
@@ -66,7 +66,7 @@ loop-again : tie.Need-loop-again Inv-loop μ-loop
 loop-again c =
     let b = c .before .before .before in
     let i = inside (b .before) in
-    let n = rw (← c .put-pairs .ensures) at (one-more-block _ _ _ (b .loop .m) (i .0) (i .1) (b .loop .inv .2)) in
+    let n = rw (← c .put-part .ensures) at (one-more-block _ _ _ (b .loop .m) (i .0) (i .1) (b .loop .inv .2)) in
     (omega arith, λ l. n .0, n .1)
 
 returns : tie.Need-returns Inv-loop μ-loop
@@ -86,10 +86,10 @@ set-bits-spec =
     cast-w
     mul-from
     loop-holds
-    mul-put-pairs
-    add-put-pairs
-    mul-put-pairs-2
-    put-pairs-requires
+    mul-put-part
+    add-put-part
+    mul-put-part-2
+    put-part-requires
     add-m
     loop-less
     loop-again

@@ -1,7 +1,7 @@
 -- `is_open` meets its contract. Assumes nothing.
 use borrow.Author.Needs.{needs}
-use Rattle.bench.proofs.refusals.is_open.Statement.{statement}
-use Rattle.bench.proofs.refusals.is_open.Tie as tie
+use Rattle.bench.proofs.tables.is_open.Statement.{statement}
+use Rattle.bench.proofs.tables.is_open.Tie as tie
 
 node-requires : tie.Need-node-requires
 node-requires c κs = search needs
