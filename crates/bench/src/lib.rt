@@ -152,26 +152,21 @@ impl Bench {
         ensures bench { λ r. ⌜ r .bench ≡ left-by (set-cell-call self cell kind) self ⌝ }
     {
         let number = refusals::set_cell(cell, kind);
+        if number != 0 {
+            return Answered {
+                answer: CallAnswer::Refused(number),
+                bench: self,
+            };
+        }
         let silent = no_sync();
         let mut s = self.settings;
-        let mut new_cell = s.cell;
-        let mut new_kind = s.kind;
-        let mut new_gains = s.gains;
-        let old_sync = s.sync;
-        let mut new_sync = old_sync;
-        if number == 0 {
-            new_cell = cell;
-            new_kind = kind;
-            new_gains = [0u16; 31];
-            new_sync = silent;
-        }
-        s.cell = new_cell;
-        s.kind = new_kind;
-        s.gains = new_gains;
-        s.sync = new_sync;
+        s.cell = cell;
+        s.kind = kind;
+        s.gains = [0u16; 31];
+        s.sync = silent;
         self.settings = s;
         Answered {
-            answer: answer(number),
+            answer: CallAnswer::Accepted,
             bench: self,
         }
     }
@@ -335,9 +330,6 @@ impl Bench {
     {
         let none = no_sync();
         let mut quiet = self.settings;
-        // As in `with_tables`.
-        let kind = quiet.kind;
-        quiet.kind = kind;
         quiet.sync = none;
         self.settings = quiet;
         Answered {
@@ -347,32 +339,23 @@ impl Bench {
     }
 
     // Copies the settings: the slot that starts keeps them, whatever calls follow. Refuses 10 slot under way.
-    pub fn start(self) -> Answered
+    pub fn start(mut self) -> Answered
         ensures answer { λ r. ⌜ told-call (r .answer) ≡ outcome (start-call self) ⌝ }
         ensures bench { λ r. ⌜ r .bench ≡ left-by (start-call self) self ⌝ }
     {
-        let settings = self.settings;
-        let mut sending = self.sending;
-        let mut running = self.running;
-        let mut position = self.position;
-        let mut number = 10;
-        if running == 0 {
-            sending = settings;
-            running = 1;
-            position = 0;
-            number = 0;
+        if self.running != 0 {
+            return Answered {
+                answer: CallAnswer::Refused(10),
+                bench: self,
+            };
         }
-        // As in `with_tables`.
-        let kind = sending.kind;
-        sending.kind = kind;
+        let copied = self.settings;
+        self.sending = copied;
+        self.running = 1;
+        self.position = 0;
         Answered {
-            answer: answer(number),
-            bench: Bench {
-                settings: settings,
-                running: running,
-                sending: sending,
-                position: position,
-            },
+            answer: CallAnswer::Accepted,
+            bench: self,
         }
     }
 

@@ -1,19 +1,14 @@
 -- `start` meets its contract: a refusal where a slot is under way, else the settings copied. Assumes nothing.
 use mathlib.Core.Path.{refl}
-use mathlib.Core.Logic.{⊎-elim}
-use borrow.Author.Needs.{needs}
 use borrow.Author.Tests.{eq-eqb, ne-eqb}
 use Rattle.bench.proofs.Bench.start.Statement.{statement}
 use Rattle.bench.proofs.Bench.start.Tie as tie
 
 returns : tie.Need-returns
-returns c =
-    let j = c .before in
-    let running = j .before .before .before .args .self .running in
-    ⊎-elim
-    (λ w. rw (c .answer .ensures, w .1, w .2, w .3, w .4, eq-eqb running 0 (w .0 .taken)) (refl, refl))
-    (λ w. rw (c .answer .ensures, w .1, w .2, w .3, w .4, ne-eqb running 0 (w .0 .left)) (refl, refl))
-    (j .if1 .came)
+returns c = rw (ne-eqb (c .before .before .args .self .running) 0 (c .if1 .taken)) (refl, refl)
+
+returns-2 : tie.Need-returns-2
+returns-2 c = rw (eq-eqb (c .before .before .before .args .self .running) 0 (c .before .if1 .left)) (refl, refl)
 
 pub start-spec : {M : Type 1} → statement M
-start-spec = tie.close (tie.spec (λ c κs. search needs) returns)
+start-spec = tie.close (tie.spec returns returns-2)
