@@ -93,11 +93,11 @@ module _ (w k : ℕ) (f : ℕ → ℕ) where
 
   -- an entry, in the first m blocks
   unfoldable pub blocks : ℕ → ℕ → ℕ → ℕ
-  blocks m i x = cond (ltb i (16 * m)) (own i x) x
+  blocks m = passed own (16 * m)
 
   pub no-block : (old : List ℕ) → Became (blocks 0) old old
   unfolding blocks
-  no-block old = record { at = λ i l. rw (le-ltb i (16 * 0) (omega arith)) }
+  no-block = none-passed own
 
   -- block m has one part
   module _ (m : ℕ) where
@@ -126,7 +126,7 @@ module _ (w k : ℕ) (f : ℕ → ℕ) where
               rw (ne-eqb (i % 16 / w) k (λ e. omega arith)) (past-part start next w i x (omega arith))
 
       one-more : k * w + w ≤ 16 → part start next w i (blocks m i x) ≡ blocks (m + 1) i x
-      unfolding blocks
+      unfolding blocks passed
       one-more fits = go (decLt i (16 * m)) (decLt i (16 * (m + 1)))
         where
           go : Dec (i < 16 * m) → Dec (i < 16 * (m + 1)) → part start next w i (blocks m i x) ≡ blocks (m + 1) i x
@@ -144,4 +144,4 @@ module _ (w k : ℕ) (f : ℕ → ℕ) where
 
   pub all-blocks : {old new : List ℕ} → Became (blocks 138) old new → Became own old new
   unfolding blocks
-  all-blocks b = record { at = λ i l. b .at i l ∙ rw (lt-ltb i (16 * 138) (omega arith)) }
+  all-blocks = all-passed own
