@@ -3,9 +3,8 @@ use mathlib.Core.Path.{_≡_, refl, sym, ap, subst, _∙_}
 use mathlib.Core.Logic.{_≢_}
 use mathlib.Core.Bool.{Bool, true, false, _||_, cond}
 use mathlib.Core.List.{List, []}
-use Prim.Native.Nat.{ℕ, zero, suc, _*_, _/_, _%_, _<_}
+use Prim.Native.Nat.{ℕ, zero, suc, _/_, _%_, _<_}
 use native.Mathlib.Decide.{ℕ-discrete}
-use native.Mathlib.Nat.{not-suc-le-zero}
 use native.Mathlib.Omega.{arith}
 use borrow.Author.Tests.{eq-eqb, ne-eqb}
 use lib.Dec.{T, eqb}
@@ -14,7 +13,7 @@ use lib.Seq.{ext-getD, getD-set-same, getD-set-other}
 use Rattle.complex.specs.Buffers.{listed}
 use Rattle.complex.proofs.Lists.{length-listed, listed-at, listed-cong}
 use Rattle.codes.specs.Range.{each, any}
-use Rattle.codes.specs.Tree.{is-spreading-factor, width}
+use Rattle.codes.specs.Tree.{is-spreading-factor}
 use Rattle.codes.proofs.Leaves.{each-code, at-code}
 use Rattle.codes.proofs.Tests.{agree, agree→eq, each-at, none-at, T-true}
 use Rattle.modulation.specs.Symbols.{pair}

@@ -186,7 +186,7 @@ impl Bench {
     }
 
     // Opens code (q, k) with bits all 0. Refuses 3 bad q; 4 k not below q; 5 gain not 1 to 4095; 6 related to an open code.
-    pub fn open(self, q: u32, k: u32, gain: u32) -> Answered
+    pub fn open(mut self, q: u32, k: u32, gain: u32) -> Answered
         ensures answer { λ r. ⌜ told-call (r .answer) ≡ outcome (open-call self q k gain) ⌝ }
         ensures bench { λ r. ⌜ r .bench ≡ left-by (open-call self q k gain) self ⌝ }
     {
@@ -208,7 +208,7 @@ impl Bench {
 
     // Replaces all open codes by those of the plan, with bits all 0, or changes nothing. Refuses 3, 4, 5, 6 as open would for the first
     // record that fails, taken in order against earlier records only, with that record's place.
-    pub fn load_plan(self, plan: &[Channel]) -> Planned
+    pub fn load_plan(mut self, plan: &[Channel]) -> Planned
         ensures answer { λ r. ⌜ told-plan (r .answer) ≡ plan-outcome (load-plan-call self (now (plan .entry))) ⌝ }
         ensures bench { λ r. ⌜ r .bench ≡ plan-left-by (load-plan-call self (now (plan .entry))) self ⌝ }
     {
@@ -240,7 +240,7 @@ impl Bench {
     }
 
     // Refuses 3; 4; 7 code not open.
-    pub fn close(self, q: u32, k: u32) -> Answered
+    pub fn close(mut self, q: u32, k: u32) -> Answered
         ensures answer { λ r. ⌜ told-call (r .answer) ≡ outcome (close-call self q k) ⌝ }
         ensures bench { λ r. ⌜ r .bench ≡ left-by (close-call self q k) self ⌝ }
     {
@@ -258,7 +258,7 @@ impl Bench {
     }
 
     // Keeps the bits. Refuses 3; 4; 5; 7.
-    pub fn set_gain(self, q: u32, k: u32, gain: u32) -> Answered
+    pub fn set_gain(mut self, q: u32, k: u32, gain: u32) -> Answered
         ensures answer { λ r. ⌜ told-call (r .answer) ≡ outcome (set-gain-call self q k gain) ⌝ }
         ensures bench { λ r. ⌜ r .bench ≡ left-by (set-gain-call self q k gain) self ⌝ }
     {
@@ -276,20 +276,20 @@ impl Bench {
     }
 
     // One byte a bit. Refuses 3; 4; 7; 8 count not 2(F1+F2)/q, F1 and F2 being the field lengths; 9 a byte above 1.
-    pub fn load_bits(self, q: u32, k: u32, bits: &[u8]) -> Answered
+    pub fn load_bits(mut self, q: u32, k: u32, bits: &[u8]) -> Answered
         ensures answer { λ r. ⌜ told-call (r .answer) ≡ outcome (load-bits-call self q k (now (bits .entry))) ⌝ }
         ensures bench { λ r. ⌜ r .bench ≡ left-by (load-bits-call self q k (now (bits .entry))) self ⌝ }
     {
         let s = self.settings;
         let gains = s.gains;
         let mut pairs = s.pairs;
-        let number = refusals::load_bits(&gains, s.kind, q, k, bits);
+        let refusal = refusals::load_bits(&gains, s.kind, q, k, bits);
         // Nothing is written before every test has passed.
-        if number == 0 {
+        if refusal == 0 {
             tables::set_bits(&mut pairs, q, k, bits);
         }
         Answered {
-            answer: answer(number),
+            answer: answer(refusal),
             bench: self.with_tables(gains, pairs),
         }
     }

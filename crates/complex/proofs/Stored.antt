@@ -6,10 +6,7 @@ use lib.IntN.{ℤ, pos, _+ℤ_, _-ℤ_, _*ℤ_}
 use mir.Syntax.{w32}
 use mir.Val.{SFits, hbits, toZ, ofZ}
 use mir.Facts.{toZ-ofZ}
-use Rattle.complex.specs.declared.Complex.{Complex}
-use Rattle.complex.specs.Arithmetic.{_+j_}
-use Rattle.complex.specs.Fits.{Within, Fits32}
-use Rattle.complex.proofs.Ring.{by-components}
+use Rattle.complex.specs.Fits.{Within}
 use Rattle.complex.proofs.Sizes.{within-add, within-sub, within-mul, fits-within}
 
 -- x, as a local or a field holds it
@@ -49,10 +46,3 @@ module _ {k : ℕ} {x a : ℤ} (h : Is k x a) where
 
     pub times : Is (k * l) (x *ℤ y) (a *ℤ b)
     times = record { equal = ap₂ _*ℤ_ (h .equal) (g .equal); size = within-mul (h .size) (g .size) }
-
--- ---- a complex value, held in two locals or fields
-abbrev pub held-complex : Complex → Complex
-held-complex z = held (z .re) +j held (z .im)
-
-pub held-complex-is : {z : Complex} → Fits32 z → held-complex z ≡ z
-held-complex-is f = by-components (toZ-ofZ (f .re)) (toZ-ofZ (f .im))

@@ -24,7 +24,7 @@ use Rattle.bench.specs.declared.Bench.{Bench}
 use Rattle.bench.specs.declared.Channel.{Channel as Record}
 use Rattle.bench.specs.Changes as Tables
 use Rattle.bench.specs.BenchCalls.{under-way, fresh, set-cell-refusals, open-refusals, bad-gain, refused-at, opened-in-turn, close-refusals, set-gain-refusals, load-bits-refusals, set-sync-refusals, Draw, draw-refusals, moved-on}
-use Rattle.bench.proofs.Accepted.{good-code}
+use Rattle.bench.proofs.Accepted.{good-code, gain-range}
 use Rattle.bench.proofs.Loading.{is-bit}
 use Rattle.demands.specs.Calls.{Call, set-cell, open-code, load-plan, close, set-gain, load-bits, set-sync, clear-sync, start, draw, Told, drew, Step, told-by, left-after}
 use Rattle.demands.specs.Reference.{Reference, fresh-reference, opened, closed, gain-set, bits-loaded, with-sync, records-opened, by-entry, by-plan, started, copy-chip, drawn, reference-step, fed}
@@ -32,7 +32,7 @@ use Rattle.demands.specs.BenchSteps.{bench-step, called, planned, drawn 
 use Rattle.demands.proofs.TableLaws.{view-cell-set, view-nothing-open, view-sync-set, view-sync-cleared, view-opened, view-closed, view-gain-set, view-bits-loaded}
 use Rattle.demands.proofs.Otherwise.{alike}
 use Rattle.demands.specs.Valid.{Valid, ValidReference}
-use Rattle.demands.proofs.Valid.{gain-range, only-itself, cell-set-valid, opened-valid, closed-valid, gain-set-valid, bits-loaded-valid, sync-set-valid, sync-cleared-valid, nothing-open-valid, fresh-reference-valid}
+use Rattle.demands.proofs.Valid.{only-itself, cell-set-valid, opened-valid, closed-valid, gain-set-valid, bits-loaded-valid, sync-set-valid, sync-cleared-valid, nothing-open-valid, fresh-reference-valid}
 
 -- the reference model that a bench stands for
 abbrev pub reference-of : Bench → Reference

@@ -21,13 +21,13 @@ use Rattle.bench.specs.declared.Bench.{Bench}
 use Rattle.bench.specs.declared.Channel.{Channel as Record}
 use Rattle.bench.specs.Changes as Tables
 use Rattle.bench.specs.BenchCalls.{open-refusals, AnswerAt, refused-at, opened-in-turn, load-plan-call}
-use Rattle.bench.proofs.Accepted.{good-code}
+use Rattle.bench.proofs.Accepted.{good-code, gain-range}
 use Rattle.orthogonality.proofs.SixteenCodes.{sixteen-codes}
 use Rattle.demands.specs.Reference.{opened, with-channel}
 use Rattle.demands.proofs.Entries.{code-of, no-code-passes}
 use Rattle.demands.proofs.TableLaws.{view-opened}
 use Rattle.demands.proofs.Otherwise.{alike}
-use Rattle.demands.proofs.Valid.{related-sym, gain-range}
+use Rattle.demands.proofs.Valid.{related-sym}
 
 -- x, then f 0, f 1, ..
 abbrev then : ℕ → (ℕ → ℕ) → ℕ → ℕ

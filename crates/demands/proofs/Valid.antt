@@ -8,7 +8,7 @@ use mathlib.Core.Option.{Option, none, some, Option·none-ne-some, Option·some-
 use Prim.Native.Nat.{ℕ, zero, suc, _≤_, _<_}
 use native.Mathlib.Omega.{arith}
 use borrow.Author.Tests.{leb-false, eqb-true, not-false}
-use lib.Dec.{T, eqb, eqb→eq, leb, leb→le}
+use lib.Dec.{T, eqb, eqb→eq}
 use lib.ListN.{getD, replicate, length-replicate}
 use mir.Facts.{and-yes}
 use Rattle.codes.specs.Tree.{among, is-code, at-or-above, related}
@@ -18,7 +18,7 @@ use Rattle.sync_codes.specs.Allocation.{one-or-two, is-frame-and-half}
 use Rattle.slot.specs.Setup.{Channel, SyncSetup, Setup, is-some, is-open}
 use Rattle.slot.specs.Slot.{bit-count}
 use Rattle.bench.specs.BenchCalls.{bad-gain, related-to-open, set-cell-refusals, open-refusals, close-refusals, set-gain-refusals, load-bits-refusals, set-sync-refusals}
-use Rattle.bench.proofs.Accepted.{good-code}
+use Rattle.bench.proofs.Accepted.{good-code, gain-range}
 use Rattle.bench.proofs.Loading.{is-bit}
 use Rattle.demands.specs.Reference.{cell-set, fresh-reference, with-channel, opened, closed, changed, gain-set, bits-loaded, with-sync, nothing-open}
 use Rattle.demands.specs.Valid.{Held, HeldSync, Valid, ValidReference}
@@ -109,11 +109,6 @@ module _ (s : Setup) (v : Valid s) (Q k : ℕ) (listed : is-code Q k ≡ true) (
 -- ---- what the refusals let pass
 holds : (t : Bool) → not t ≡ false → T t
 holds t e = subst T (sym (not-false t e)) tt
-
-pub gain-range : (g : ℕ) → bad-gain g ≡ false → (1 ≤ g) × (g ≤ 4095)
-gain-range g e =
-    let p = and-yes (leb 1 g) (leb g 4095) (holds (leb 1 g && leb g 4095) e) in
-    (leb→le 1 g (p .0), leb→le g 4095 (p .1))
 
 -- bits all 0
 zeros : (n i : ℕ) → getD (replicate {A = ℕ} n 0) i 0 ≤ 1

@@ -32,7 +32,7 @@ joined-is gains s x Q i e a b c = e ∙ (λ j. a j +ℤ pos (b j) *ℤ c j)
 
 -- ---- sizes
 module _ {k : ℕ} {x : List ℤ} (h : Bound k x) where
-  pub raised-within : (Q i : ℕ) → Within (k + k) (raised x Q i)
+  raised-within : (Q i : ℕ) → Within (k + k) (raised x Q i)
   unfolding raised
   raised-within Q i = go (eqb Q 16) (eqb (i % 2) 0) (h .at _) (h .at _)
     where
@@ -58,7 +58,7 @@ closed g e = go (ℕ-discrete g 0)
     go (yes z) = z
     go (no n) = absurd (false≢true (sym (rw (ne-eqb g 0 n) at e)))
 
-pub nothing-own : (gains : List ℕ) (s : List ℤ) (Q : ℕ) → is-spreading-factor Q ≡ true → has-open gains Q ≡ false → (i : ℕ) → i < 16 → own gains s Q i ≡ pos 0
+nothing-own : (gains : List ℕ) (s : List ℤ) (Q : ℕ) → is-spreading-factor Q ≡ true → has-open gains Q ≡ false → (i : ℕ) → i < 16 → own gains s Q i ≡ pos 0
 unfolding own
 nothing-own gains s Q q e i l =
     let k : i / width Q < Q = of-factors (λ Q. i / width Q < Q) (omega arith) (omega arith) (omega arith) (omega arith) (omega arith) Q q in

@@ -1,5 +1,5 @@
 -- The scrambling code's elements are imaginary at even places and real at odd ones: a product with one by two single products. Assumes nothing.
-use mathlib.Core.Path.{_≡_, ap, _∙_, refl}
+use mathlib.Core.Path.{_≡_, ap}
 use mathlib.Core.Bool.{Bool, true, false, cond}
 use mathlib.Core.List.{List}
 use Prim.Native.Nat.{ℕ, _+_, _*_, _%_, _<_}
@@ -10,13 +10,13 @@ use lib.Dec.{eqb, lit≤}
 use lib.IntN.{ℤ, pos, _+ℤ_, _-ℤ_, _*ℤ_, zero-*ℤ, *ℤ-zero}
 use lib.ListN.{getD}
 use Rattle.complex.specs.declared.Complex.{Complex}
-use Rattle.complex.specs.Arithmetic.{_+j_, real, _⊗_, j^}
+use Rattle.complex.specs.Arithmetic.{_+j_, real, _⊗_}
 use Rattle.complex.specs.Buffers.{listed, value}
 use Rattle.complex.proofs.Integers.{ring}
 use Rattle.complex.proofs.Lists.{listed-at}
 use Rattle.complex.proofs.Ring.{by-components}
 use Rattle.complex.proofs.Rotations.{rotate-0, rotate-1, rotate-2, rotate-3}
-use Rattle.codes.specs.Scrambling.{v, scrambling}
+use Rattle.codes.specs.Scrambling.{scrambling}
 use Rattle.complex.specs.Fits.{Within, Both, Bound}
 use Rattle.complex.proofs.Bounds.{bound-listed}
 use Rattle.complex.proofs.Components.{both-⊗}

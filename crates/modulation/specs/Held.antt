@@ -47,7 +47,7 @@ raised x Q i =
 unfoldable pub own : List ℕ → List ℤ → ℕ → ℕ → ℤ
 own gains s Q i = pos (getD gains (node Q (i / width Q)) 0) *ℤ getD s i (pos 0)
 
--- and with both: entry i of level Q from the entries x of the level below it
+-- entry i of level Q: what the entries x of the level below it make, and its own codes
 abbrev pub climbed : List ℕ → List ℤ → List ℤ → ℕ → ℕ → ℤ
 climbed gains s x Q i = raised x Q i +ℤ own gains s Q i
 
@@ -59,17 +59,21 @@ joined gains s x Q i = getD x i (pos 0) +ℤ own gains s Q i
 abbrev pub has-open : List ℕ → ℕ → Bool
 has-open gains Q = any Q (λ k. not (eqb (getD gains (node Q k) 0) 0))
 
+-- which levels have an open code
 abbrev pub levels-of : List ℕ → OpenLevels
 levels-of gains = record { q1 = has-open gains 1; q2 = has-open gains 2; q4 = has-open gains 4; q8 = has-open gains 8; q16 = has-open gains 16 }
 
+-- re where the flag is true, else im
 abbrev pub component : Complex → Bool → ℤ
 component z re = cond re (z .re) (z .im)
 
--- ---- scrambling: (x + y j) w for a w that is imaginary at even places, real at odd ones. With w (1 + j) = t + u j the product is
+-- ---- scrambling: (x + y j) w for a w that is imaginary at even places, from 0, and real at odd ones. With w (1 + j) = t + u j the product is
 -- t y + u x j at even places, t x + u y j at odd ones.
+-- the turn of chip i: scrambling element i + 1 times 1 + j
 abbrev pub turn-at : ℕ → ℕ → Complex
 turn-at p i = scrambling p (i + 1) ⊗ (pos 1 +j pos 1)
 
+-- entry i of the turns t times that of `even` or of `odd`, by the place's parity
 abbrev pub turned : List ℤ → List ℤ → List ℤ → ℕ → ℤ
 turned t even odd i = getD t i (pos 0) *ℤ cond (eqb (i % 2) 0) (getD even i (pos 0)) (getD odd i (pos 0))
 

@@ -191,8 +191,8 @@ pub fn spread(gains: &[u16; 31], levels: OpenLevels, s: &[i32; 16]) -> [i32; 16]
     climbed(gains, levels.q1, s, &x2, 1)
 }
 
-// The elements of a cell's scrambling code, each times 1 + j: they are imaginary at even places and real at odd ones, so that each component
-// of a product with one is a single product, with a component of this row.
+// A cell's turns: the elements of its scrambling code, each times 1 + j. The elements themselves are imaginary at even places, from 0, and real at
+// odd ones, so that each component of a product with one is a single product, with a component of its turn.
 pub fn turns(cell: CellParameter) -> Block
     ensures { λ r. ⌜ r ≡ block-of (turn-at (cell .0)) ⌝ }
 {

@@ -53,7 +53,7 @@ module _ (p : ℕ) (y : SyncSetup) (x : ℕ) (m : x % 16 ≡ 0) where
   abbrev start : ℕ
   start = cell-start p
 
-  pub outside : (x < start) ⊎ (start + 256 ≤ x) → (i : ℕ) → i < 16 → sync-chip p (some y) (x + i) ≡ 𝟎
+  outside : (x < start) ⊎ (start + 256 ≤ x) → (i : ℕ) → i < 16 → sync-chip p (some y) (x + i) ≡ 𝟎
   outside h i l = sync-outside p y (x + i) (shifted h)
     where
       shifted : (x < start) ⊎ (start + 256 ≤ x) → (x + i < start) ⊎ (start + 256 ≤ x + i)

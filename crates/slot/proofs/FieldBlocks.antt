@@ -1,5 +1,5 @@
 -- The chips that a block of sixteen holds, with the burst's, and that they are the field's. Assumes nothing.
-use mathlib.Core.Path.{_≡_, refl, sym, ap, ap₂, _∙_}
+use mathlib.Core.Path.{_≡_, sym, ap, ap₂, _∙_}
 use mathlib.Core.Bool.{true, false, cond}
 use mathlib.Core.List.{List}
 use Prim.Native.Nat.{ℕ, _+_, _-_, _%_, _<_, _≤_}
@@ -26,11 +26,11 @@ use Rattle.slot.specs.Held.{spread-row, block-chip, held-chip}
 use Rattle.slot.proofs.Viewed.{symbols-from, spread-chip, data-is}
 
 -- ---- one component of the chips of a block f and of a burst b
-module _ (part : Complex → ℤ) (add : (z w : Complex) → part z +ℤ part w ≡ part (z ⊕ w)) (f : ℕ → Complex) where
+module _ (part : Complex → ℤ) (f : ℕ → Complex) where
   -- summed entry by entry
-  pub summed : (b : ℕ → Complex) (c d : List ℤ) {x : List ℤ} → x ≡ listed 16 (λ i. getD c i (pos 0) +ℤ getD d i (pos 0)) → c ≡ listed 16 (λ i. part (f i))
+  pub summed : ((z w : Complex) → part z +ℤ part w ≡ part (z ⊕ w)) → (b : ℕ → Complex) (c d : List ℤ) {x : List ℤ} → x ≡ listed 16 (λ i. getD c i (pos 0) +ℤ getD d i (pos 0)) → c ≡ listed 16 (λ i. part (f i))
       → ((i : ℕ) → getD d i (pos 0) ≡ part (b i)) → x ≡ listed 16 (λ i. part (f i ⊕ b i))
-  summed b c d e g h =
+  summed add b c d e g h =
       e ∙ listed-cong 16 _ _ (λ i l. ap (λ (c : List ℤ). getD c i (pos 0) +ℤ getD d i (pos 0)) g ∙ ap₂ _+ℤ_ (listed-at (λ i. part (f i)) (pos 0) 16 i l) (h i) ∙ add (f i) (b i))
 
   -- of a whole block where there is no burst
@@ -63,7 +63,7 @@ module _ (s : Settings) (before start q : ℕ) {t u : List ℤ} (t-is : t ≡ li
       ∙ turned-chip (s .cell .0) x y (q % 16) l
       ∙ ap (λ (z : Complex). z ⊗ scrambling (s .cell .0) (q % 16 + 1)) (value-in-buffers 16 (spread-chip (s .gains) (symbols-from s (before + first))) (q % 16) l)
 
-  pub held-is : before % 16 ≡ 0 → before + q < data-chips (s .kind) → held-chip (s .gains) (s .pairs) (s .cell .0) (s .sync) t u before start q ≡ field-chip (view s) before start q
+  held-is : before % 16 ≡ 0 → before + q < data-chips (s .kind) → held-chip (s .gains) (s .pairs) (s .cell .0) (s .sync) t u before start q ≡ field-chip (view s) before start q
   unfolding view
   held-is p d =
       let e : first + q % 16 ≡ q = omega arith in

@@ -1,7 +1,7 @@
 -- How the code makes the chips of a slot, sixteen at a time. Nothing here is document 01's: the contracts of the bench's calls do not name it.
 use lib.IntN.{ℤ}
 use Prim.Native.Nat.{ℕ, _+_, _-_, _%_}
-use mathlib.Core.Bool.{Bool, true, false, cond, _&&_}
+use mathlib.Core.Bool.{Bool, true, false, _&&_}
 use mathlib.Core.List.{List}
 use mathlib.Core.Option.{Option, none, some}
 use lib.Dec.{leb, ltb}
@@ -29,7 +29,8 @@ block-chip gains pairs from t u c =
     let y = spread-row gains pairs from false in
     turned t y x c +j turned u x y c
 
--- chip q of a field, with the burst's: as `field-chip`, from its block
+-- chip q of a field, with the burst's: as `field-chip`, from its block. `before` is how many chips the fields before it have, `start` the slot's chip at
+-- which it starts
 abbrev pub held-chip : List ℕ → List ℕ → ℕ → Sync → List ℤ → List ℤ → ℕ → ℕ → ℕ → Complex
 held-chip gains pairs p sync t u before start q =
     block-chip gains pairs (before + (q - q % 16)) t u (q % 16) ⊕ sync-chip p (view-sync p sync) (start + q)

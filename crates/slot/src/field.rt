@@ -128,8 +128,8 @@ fn write_part<'a>(
     put(im, &y, i);
 }
 
-// A block's chips from chip i on, as many as the parts have; its first chip is the slot's chip x. Most blocks are whole and have no burst:
-// they go straight to the buffers.
+// A block's chips from chip i on, as many as the parts have; its pairs stand from `from` on, and its first chip is the slot's chip x. Most
+// blocks are whole and have no burst: they go straight to the buffers.
 fn write_block<'a>(
     gains: &'a [u16; 31],
     levels: OpenLevels,
@@ -144,7 +144,7 @@ fn write_block<'a>(
     re: &mut [i32],
     im: &mut [i32],
 )
-    requires { ⌜ (from + 16 ≤ 2208) × (levels ≡ levels-of (now gains)) × Bound 2 (now tre) × Bound 2 (now tim) × (i + length (now re) ≤ 16) × (length (now im) ≡ length (now re)) × (x % 16 ≡ 0) × (x ≤ 5120) ⌝ }
+    requires { ⌜ (from + 16 ≤ 2208) × (levels ≡ levels-of (now gains)) × Bound 2 (now tre) × Bound 2 (now tim) × (i + length (now re) ≤ 16) × (length (now im) ≡ length (now re)) × (x % 16 ≡ 0) ⌝ }
     ensures real { λ r. ⌜ now (re .exit) ≡ listed (length (now (re .entry))) (λ j. (block-chip (now (gains .entry)) (now (pairs .entry)) from (now (tre .entry)) (now (tim .entry)) (i + j) ⊕ sync-chip (cell .0) (view-sync (cell .0) sync) (x + (i + j))) .re) ⌝ }
     ensures imaginary { λ r. ⌜ now (im .exit) ≡ listed (length (now (im .entry))) (λ j. (block-chip (now (gains .entry)) (now (pairs .entry)) from (now (tre .entry)) (now (tim .entry)) (i + j) ⊕ sync-chip (cell .0) (view-sync (cell .0) sync) (x + (i + j))) .im) ⌝ }
 {

@@ -179,6 +179,7 @@ pub extern "C" fn tdd_bench_start(bench: Bench) -> CallResult
     call_result(bench.start())
 }
 
+// Document 01's number of a refused draw, or 0.
 fn draw_refusal(answer: DrawAnswer) -> u32
     ensures { λ r. ⌜ r ≡ refusal-of (told-draw answer) ⌝ }
 {
@@ -188,6 +189,7 @@ fn draw_refusal(answer: DrawAnswer) -> u32
     }
 }
 
+// How many chips a draw wrote, 0 where it was refused.
 fn draw_count(answer: DrawAnswer) -> usize
     ensures { λ r. ⌜ r ≡ after (told-draw answer) 0 (λ m. m) ⌝ }
 {

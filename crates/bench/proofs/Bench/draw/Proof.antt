@@ -1,12 +1,11 @@
 -- `draw` meets its contract: a refusal, or the next chips. Assumes nothing.
 use mathlib.Core.Path.{_≡_, refl, sym, ap, _∙_}
-use mathlib.Core.Bool.{Bool, true, false, not, cond}
-use mathlib.Core.List.{List, [], _∷_, _++_}
+use mathlib.Core.List.{List, _++_}
 use mathlib.Core.Logic.{⊎-elim, _≢_}
-use Prim.Native.Nat.{ℕ, suc, _+_, _-_, min}
+use Prim.Native.Nat.{ℕ, _+_, _-_, min}
 use native.Mathlib.Omega.{arith}
 use borrow.Author.Needs.{needs}
-use borrow.Author.Tests.{eq-eqb, ne-eqb, eqb-true}
+use borrow.Author.Tests.{eq-eqb, ne-eqb, eqb-true, not-false}
 use lib.Dec.{eqb}
 use lib.IntN.{ℤ}
 use lib.ListN.{length, take, drop}
@@ -15,8 +14,8 @@ use Rattle.complex.specs.Buffers.{listed, written, in-buffers}
 use Rattle.slot.specs.Slot.{chip}
 use Rattle.slot.specs.Tables.{view}
 use Rattle.complex.proofs.Lists.{length-listed}
-use Rattle.codes.specs.Refusals.{Answer, gives, refused, after, number, _if_}
-use Rattle.codes.proofs.Refused.{numbered, accepted, not-accepted}
+use Rattle.codes.specs.Refusals.{Answer, gives, refused, after, number}
+use Rattle.codes.proofs.Refused.{numbered, passed, accepted, not-accepted}
 use Rattle.bench.specs.declared.Bench.{Bench}
 use Rattle.bench.specs.BenchCalls.{Draw, draw-refusals, moved-on, draw-call, counted}
 use Rattle.bench.proofs.Bench.draw.Statement.{statement}
@@ -27,27 +26,6 @@ written-prefix : (f : ℕ → ℤ) (n : ℕ) (d : List ℤ) {new : List ℤ} →
     → new ++ drop n d ≡ written (listed n f) d
 written-prefix f n d l e = rw (e, l, length-listed f n)
 
--- the number that the tests found is the refusals'
-tests : (b : Bench) (n m : ℕ) {r : ℕ} → r ≡ cond (eqb (b .running) 0) 11 (cond (eqb n m) 0 12) → r ≡ number (draw-refusals b n m)
-tests b n m e = e ∙ go (eqb (b .running) 0) (eqb n m)
-  where
-    go : (s t : Bool) → cond s 11 (cond t 0 12) ≡ number (11 if not (not s) ∷ 12 if not t ∷ [])
-    go true t = refl
-    go false true = refl
-    go false false = refl
-
-positive : {n : ℕ} → suc n ≡ 0 → ⊥
-positive e = omega arith
-
--- where it is 0, the lengths are the same
-same-lengths : (x n m : ℕ) {r : ℕ} → r ≡ cond (eqb x 0) 11 (cond (eqb n m) 0 12) → r ≡ 0 → n ≡ m
-same-lengths x n m {r} e z = eqb-true n m (go (eqb x 0) (eqb n m) (sym e ∙ z))
-  where
-    go : (s t : Bool) → _≡_ {A = ℕ} (cond s 11 (cond t 0 12)) 0 → t ≡ true
-    go true t e = absurd (positive e)
-    go false true e = refl
-    go false false e = absurd (positive e)
-
 -- the call's answer, where the tests found a number and where they found none
 module _ (b : Bench) (n m : ℕ) {r : ℕ} (e : r ≡ number (draw-refusals b n m)) where
   abbrev told : Answer Draw
@@ -55,6 +33,11 @@ module _ (b : Bench) (n m : ℕ) {r : ℕ} (e : r ≡ number (draw-refusals b n 
 
   not-drawn : r ≢ 0 → told ≡ refused r
   not-drawn d = not-accepted _ (draw-refusals b n m) (λ z. d (e ∙ z)) ∙ ap refused (sym e)
+
+  -- where they found none, the lengths are the same
+  same-lengths : r ≡ 0 → n ≡ m
+  unfolding numbered
+  same-lengths z = eqb-true n m (not-false (eqb n m) (passed (draw-refusals b n m) tt (sym e ∙ z) .1 .0))
 
   drawn : (k : ℕ) → k ≡ min n (2560 - b .position) → r ≡ 0
       → told ≡ gives (record { count = k; chips = in-buffers k (λ i. chip (view (b .sending)) (b .position + i)); bench = moved-on b k })
@@ -71,7 +54,7 @@ count c = c .smaller .ensures ∙ ap (min _) (c .before .past .ensures)
 room : (c : tie.After-smaller) → let s = c .before .before .before .before .args in let n = c .smaller .result in (length (take n (s .re .now)) ≡ n) × (length (take n (s .im .now)) ≡ n)
 room c =
     let s = c .before .before .before .before .args in
-    let e = same-lengths (s .t1 .running) (length (s .re .now)) (length (s .im .now)) (c .before .before .before .draw .ensures) (c .before .before .if1 .taken) in
+    let e = same-lengths (s .t1) (length (s .re .now)) (length (s .im .now)) (c .before .before .before .draw .ensures (s .t1) refl) (c .before .before .if1 .taken) in
     (length-take-le _ _ (omega (arith, count c)), length-take-le _ _ (omega (arith, e, count c)))
 
 slice-aggregate-write : tie.Need-slice-aggregate-write
@@ -81,7 +64,7 @@ slice-relend-prefix-write-2 : tie.Need-slice-relend-prefix-write-2
 slice-relend-prefix-write-2 c =
     let r = c .before .before .before .before .before .before in
     let s = r .before .before .before .before .args in
-    let e = same-lengths (s .t1 .running) (length (s .re .now)) (length (s .im .now)) (r .before .before .before .draw .ensures) (r .before .before .if1 .taken) in
+    let e = same-lengths (s .t1) (length (s .re .now)) (length (s .im .now)) (r .before .before .before .draw .ensures (s .t1) refl) (r .before .before .if1 .taken) in
     omega (arith, e, count r)
 
 slice-aggregate-write-2 : tie.Need-slice-aggregate-write-2
@@ -98,12 +81,12 @@ returns c =
     let b = s .t1 in
     let n = length (s .re .now) in
     let m = length (s .im .now) in
-    let t = tests b n m (d .draw .ensures) in
+    let t = d .draw .ensures b refl in
     ⊎-elim
     (λ w.
     let k = w .2 .result in
     let q : k ≡ min n (2560 - b .position) = w .2 .ensures ∙ ap (min n) (w .1 .ensures) in
-    let same : n ≡ m = same-lengths (b .running) n m (d .draw .ensures) (w .0 .taken) in
+    let same : n ≡ m = same-lengths b n m t (w .0 .taken) in
     let e = drawn b n m t k q (w .0 .taken) in (
       c .draw-answer .ensures ∙ rw (eq-eqb _ _ (w .0 .taken)) (ap gives (w .17) ∙ sym (ap counted e)),
       (

@@ -1,5 +1,5 @@
 -- `any_of_five` meets its contract: a test is looked at only where those before it fail. Assumes nothing.
-use mathlib.Core.Path.{_≡_, sym, _∙_}
+use mathlib.Core.Path.{_≡_, _∙_}
 use mathlib.Core.Bool.{_||_}
 use mathlib.Core.Logic.{⊎-elim}
 use Rattle.bench.proofs.tables.any_of_five.Statement.{statement}

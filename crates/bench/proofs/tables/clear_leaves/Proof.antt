@@ -1,5 +1,5 @@
 -- `clear_leaves` meets its contract. The loops' invariant: the entries passed are kept or cleared, by their leaf. Assumes nothing.
-use mathlib.Core.Path.{_≡_, _∙_}
+use mathlib.Core.Path.{_≡_}
 use mathlib.Core.Bool.{Bool, false, cond}
 use mathlib.Core.List.{List}
 use Prim.Native.Nat.{ℕ, _+_, _*_, _-_, _%_, _≤_}

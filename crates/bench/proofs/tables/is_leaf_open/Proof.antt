@@ -1,5 +1,4 @@
 -- `is_leaf_open` meets its contract. Assumes nothing.
-use native.Mathlib.Omega.{arith}
 use borrow.Author.Needs.{needs}
 use Rattle.bench.specs.Held.{is-leaf-open}
 use Rattle.bench.proofs.tables.is_leaf_open.Statement.{statement}

@@ -1,7 +1,6 @@
 -- `climbed` meets its contract: a round, and the level's own codes where one is open. Assumes nothing.
 use mathlib.Core.Path.{sym, _∙_}
 use native.Mathlib.Omega.{arith}
-use borrow.Author.Needs.{needs}
 use Rattle.complex.proofs.Bounds.{bound-more}
 use Rattle.modulation.proofs.Levels.{raised-bound, nothing-joined, round-joined}
 use Rattle.modulation.proofs.data.climbed.Statement.{statement}

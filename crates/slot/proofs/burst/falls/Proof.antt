@@ -2,17 +2,16 @@
 use mathlib.Core.Path.{_≡_, sym, ap, _∙_}
 use mathlib.Core.Bool.{_&&_}
 use mathlib.Core.Logic.{inl, inr}
-use mathlib.Core.Option.{Option, none, some}
-use native.Mathlib.Omega.{arith}
+use mathlib.Core.Option.{Option}
 use borrow.Author.Needs.{needs}
 use borrow.Author.Tests.{le-leb, lt-leb}
-use Prim.Native.Nat.{ℕ, _+_}
+use Prim.Native.Nat.{_+_}
 use lib.Dec.{leb, ltb}
 use Rattle.slot.specs.Setup.{SyncSetup}
 use Rattle.slot.specs.Tables.{view-sync}
 use Rattle.slot.specs.Held.{falls-on}
 use Rattle.slot.proofs.BurstPlace.{cell-start, start-found}
-use Rattle.slot.proofs.BurstBlocks.{viewed, view-off, view-on}
+use Rattle.slot.proofs.BurstBlocks.{view-off, view-on}
 use Rattle.slot.proofs.burst.falls.Statement.{statement}
 use Rattle.slot.proofs.burst.falls.Tie as tie
 

@@ -13,7 +13,7 @@ use Rattle.slot.proofs.Halves.{ordered}
 use Rattle.slot.proofs.Pieces.{length-rest, two-parts}
 use Rattle.slot.proofs.field.write.Statement.{statement}
 use Rattle.slot.proofs.field.write.Tie as tie
-use Rattle.slot.proofs.field.write.Proof.Cut.{lengths, parted, began, cuts, within, end-small, first-data, second-data, in-pairs, turns, at, one, two, in-one, in-two}
+use Rattle.slot.proofs.field.write.Proof.Cut.{lengths, parted, began, cuts, within, end-small, first-data, second-data, in-pairs, at, one, two, in-one, in-two}
 
 turns-requires : tie.Need-turns-requires
 turns-requires c κs = search needs

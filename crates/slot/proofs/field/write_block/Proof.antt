@@ -1,12 +1,10 @@
 -- `write_block` meets its contract: a whole block without burst as it is, any other with the burst's chips. Assumes nothing.
-use mathlib.Core.Path.{_≡_, refl, sym, _∙_}
-use Prim.Native.Nat.{ℕ, _+_, _≤_}
+use mathlib.Core.Path.{sym, _∙_}
+use Prim.Native.Nat.{ℕ, _+_}
 use native.Mathlib.Omega.{arith}
 use borrow.Author.Needs.{needs}
 use borrow.Author.Tests.{eqb-true, not-true}
-use lib.ListN.{length}
 use Rattle.complex.specs.declared.Complex.{Complex}
-use Rattle.complex.specs.Arithmetic.{_⊕_}
 use Rattle.slot.specs.Slot.{sync-chip}
 use Rattle.slot.specs.Tables.{view-sync}
 use Rattle.slot.specs.Held.{block-chip}
@@ -30,23 +28,21 @@ write-whole-requires c κs =
     (p .0, p .1, p .2, p .3, c .before .before .before .before .before .if1 .taken, eqb-true _ _ (c .before .before .before .before .if2 .taken))
 
 returns : tie.Need-returns
-unfolding _⊕_
 returns c =
     let s = c .before .before .before .before .before .before .before .before .before in
     let e = c .before .before .write-whole .ensures in
     let silent = falls-nowhere (s .args .cell .0) (view-sync (s .args .cell .0) (s .args .sync)) (s .args .x) (s .pre .6) (sym (c .before .before .before .before .before .before .falls .ensures) ∙ not-true _ (c .before .before .before .before .before .if3 .taken)) in (
-      whole-chips (λ z. z .re) (λ z w. refl) (chips s) (burst s) _ (s .args .i) (c .before .before .before .before .before .before .before .before .if1 .taken) (s .pre .4) silent (e .0),
-      whole-chips (λ z. z .im) (λ z w. refl) (chips s) (burst s) _ (s .args .i) (eqb-true _ _ (c .before .before .before .before .before .before .before .if2 .taken)) (omega (arith, s .pre .4, s .pre .5)) silent (e .1),
+      whole-chips (λ z. z .re) (chips s) (burst s) _ (s .args .i) (c .before .before .before .before .before .before .before .before .if1 .taken) (s .pre .4) silent (e .0),
+      whole-chips (λ z. z .im) (chips s) (burst s) _ (s .args .i) (eqb-true _ _ (c .before .before .before .before .before .before .before .if2 .taken)) (omega (arith, s .pre .4, s .pre .5)) silent (e .1),
     )
 
 returns-2 : tie.Need-returns-2
-unfolding _⊕_
 returns-2 c =
     let s = c .before .before .before .before .before .before .before in
     let e = c .before .before .write-part .ensures in
     let b = c .before .before .before .before .before .at .ensures .0 in (
-      part-chips (λ z. z .re) (λ z w. refl) (chips s) (burst s) _ (s .args .i) b (s .pre .4) (e .0),
-      part-chips (λ z. z .im) (λ z w. refl) (chips s) (burst s) _ (s .args .i) b (omega (arith, s .pre .4, s .pre .5)) (e .1),
+      part-chips (λ z. z .re) (chips s) (burst s) _ (s .args .i) b (s .pre .4) (e .0),
+      part-chips (λ z. z .im) (chips s) (burst s) _ (s .args .i) b (omega (arith, s .pre .4, s .pre .5)) (e .1),
     )
 
 pub write-block-spec : {M : Type 1} → statement M

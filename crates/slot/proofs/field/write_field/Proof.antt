@@ -5,7 +5,6 @@ use Prim.Native.Nat.{ℕ, _+_, _-_, _%_, _<_, _≤_}
 use native.Mathlib.Nat.{add-assoc}
 use native.Mathlib.Omega.{arith}
 use borrow.Author.Needs.{needs}
-use borrow.Rule.Slice.PartMut.{midOf, putMid}
 use lib.IntN.{ℤ}
 use lib.ListN.{length, take, drop, length-drop}
 use lib.Seq.{length-take-le}
@@ -67,7 +66,6 @@ write-block-requires c κs =
       rw re (h .0),
       im ∙ sym re,
       omega arith,
-      omega (arith, k, h),
     )
 
 -- the chips of a turn, which begins at chip q of the field and writes m chips of one block, are the field's

@@ -21,8 +21,8 @@ returns c =
     let f = block-chip (a .gains .now) (a .pairs .now) (a .from) (a .tre .now) (a .tim .now) in
     let b = value (a .b .re) (a .b .im) in
     let both : ℕ → Complex = λ i. f i ⊕ b i in (
-      put-part (λ (z : Complex). z .re) both (summed (λ z. z .re) (λ z w. refl) f b _ (a .b .re) (c .before .before .before .before .before .before .before .before .before .before .before .sums .ensures) (ap (λ (b : Block). b .re) e) (λ i. refl)) _ _ (s .pre .4) (c .before .before .before .before .before .put .ensures),
-      put-part (λ (z : Complex). z .im) both (summed (λ z. z .im) (λ z w. refl) f b _ (a .b .im) (c .before .before .before .before .before .before .before .before .sums2 .ensures) (ap (λ (b : Block). b .im) e) (λ i. refl)) _ _ (s .pre .5) (c .before .put2 .ensures),
+      put-part (λ (z : Complex). z .re) both (summed (λ z. z .re) f (λ z w. refl) b _ (a .b .re) (c .before .before .before .before .before .before .before .before .before .before .before .sums .ensures) (ap (λ (b : Block). b .re) e) (λ i. refl)) _ _ (s .pre .4) (c .before .before .before .before .before .put .ensures),
+      put-part (λ (z : Complex). z .im) both (summed (λ z. z .im) f (λ z w. refl) b _ (a .b .im) (c .before .before .before .before .before .before .before .before .sums2 .ensures) (ap (λ (b : Block). b .im) e) (λ i. refl)) _ _ (s .pre .5) (c .before .put2 .ensures),
     )
 
 pub write-part-spec : {M : Type 1} → statement M

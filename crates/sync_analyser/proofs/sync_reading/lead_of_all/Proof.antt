@@ -5,7 +5,7 @@ use native.Mathlib.Nat.{zero-add}
 use native.Mathlib.Omega.{arith}
 use lib.IntN.{ℤ}
 use Rattle.complex.specs.Buffers.{value}
-use Rattle.sync_analyser.specs.SyncReading.{candidate, candidates, sent}
+use Rattle.sync_analyser.specs.SyncReading.{candidate, sent}
 use Rattle.sync_analyser.specs.Held.{Leads, shares-of}
 use Rattle.sync_analyser.proofs.Leaders.{leads-cong, leads-or-later}
 use Rattle.sync_analyser.proofs.Rows.{Case, case-known}

@@ -22,7 +22,7 @@ use Rattle.slot.proofs.Lengths.{Lengths, lengths-of}
 use Rattle.slot.proofs.field.write.Tie as tie
 
 -- from where the parts are known back to the entry
-abbrev pub entry : tie.After-parts-of → tie.Start
+abbrev entry : tie.After-parts-of → tie.Start
 entry c = c .before .before .before .before .before
 
 pub lengths : (c : tie.After-parts-of) → Lengths (c .parts-of .result)
@@ -72,7 +72,7 @@ in-pairs c = lengths-of (began c .args .kind) .pairs
 abbrev settings : tie.After-cut3 → Settings
 settings c = let a = began c .args in settings-of (a .cell) (a .kind) (a .gains .now) (a .pairs .now) (a .sync)
 
-abbrev pub turns : tie.After-cut3 → Block
+abbrev turns : tie.After-cut3 → Block
 turns c = parted c .before .before .before .before .turns .result
 
 abbrev pub at : tie.After-cut3 → ℕ → Complex
