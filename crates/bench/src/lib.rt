@@ -371,14 +371,15 @@ impl Bench {
         let mut n: usize = 0;
         // Nothing is written before both tests have passed.
         if number == 0 {
+            let s = self.sending;
             let from = self.position;
             n = field::smaller(re.len(), field::past(2560, from));
             field::write(
-                self.sending.cell,
-                self.sending.kind,
-                &self.sending.gains,
-                &self.sending.pairs,
-                self.sending.sync,
+                s.cell,
+                s.kind,
+                &s.gains,
+                &s.pairs,
+                s.sync,
                 from,
                 &mut re[..n],
                 &mut im[..n],

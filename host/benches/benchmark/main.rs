@@ -7,6 +7,7 @@ mod inputs;
 mod rows;
 mod table;
 mod tables;
+mod targets;
 mod timing;
 
 use std::process::ExitCode;
@@ -32,6 +33,8 @@ fn main() -> ExitCode {
         eprintln!("{difference}");
         return ExitCode::FAILURE;
     }
-    table::print(&timing::measure(&mut rows));
+    let measured = timing::measure(&mut rows);
+    table::print(&measured);
+    targets::print(&measured);
     ExitCode::SUCCESS
 }

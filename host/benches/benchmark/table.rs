@@ -13,7 +13,7 @@ fn duration(ns: f64) -> String {
     format!("{text} {unit}")
 }
 
-fn line(cells: &[String; 6], widths: &[usize; 6]) {
+fn line<const N: usize>(cells: &[String; N], widths: &[usize; N]) {
     let mut text = String::from("|");
     for (at, (cell, &width)) in cells.iter().zip(widths).enumerate() {
         text += &if at == 0 { format!(" {cell:<width$} |") } else { format!(" {cell:>width$} |") };
@@ -47,11 +47,15 @@ pub fn print(measured: &[Measured]) {
             [name.clone(), duration(*l), duration(*d), duration(*b), ratio(*d), ratio(*b)]
         })
         .collect();
-    let width = |column: usize| {
+    print_rows(titles, rows);
+}
+
+/// Titles and rows in columns, all but the first one to the right.
+pub fn print_rows<const N: usize>(titles: [String; N], rows: Vec<[String; N]>) {
+    let widths: [usize; N] = std::array::from_fn(|column| {
         rows.iter().chain([&titles]).map(|row| row[column].chars().count()).max().expect("there are titles")
-    };
-    let widths = [0, 1, 2, 3, 4, 5].map(width);
-    let rules: [String; 6] =
+    });
+    let rules: [String; N] =
         std::array::from_fn(|at| if at == 0 { "-".repeat(widths[0]) } else { "-".repeat(widths[at] - 1) + ":" });
     [&titles, &rules].into_iter().chain(&rows).for_each(|row| line(row, &widths));
 }

@@ -47,14 +47,14 @@ module _ (b : Bench) (n m : ℕ) {r : ℕ} (e : r ≡ number (draw-refusals b n 
       ∙ ap (λ (k : ℕ). gives (record { count = k; chips = in-buffers k (λ i. chip (view (b .sending)) (b .position + i)); bench = moved-on b k })) (sym q)
 
 -- how many chips are written
-count : (c : tie.After-smaller) → let s = c .before .before .before .before .args in c .smaller .result ≡ min (length (s .re .now)) (2560 - s .t1 .position)
+count : (c : tie.After-smaller) → let s = c .before .before .before .before .before .args in c .smaller .result ≡ min (length (s .re .now)) (2560 - s .self .position)
 count c = c .smaller .ensures ∙ ap (min _) (c .before .past .ensures)
 
 -- both buffers have room for them
-room : (c : tie.After-smaller) → let s = c .before .before .before .before .args in let n = c .smaller .result in (length (take n (s .re .now)) ≡ n) × (length (take n (s .im .now)) ≡ n)
+room : (c : tie.After-smaller) → let s = c .before .before .before .before .before .args in let n = c .smaller .result in (length (take n (s .re .now)) ≡ n) × (length (take n (s .im .now)) ≡ n)
 room c =
-    let s = c .before .before .before .before .args in
-    let e = same-lengths (s .t1) (length (s .re .now)) (length (s .im .now)) (c .before .before .before .draw .ensures (s .t1) refl) (c .before .before .if1 .taken) in
+    let s = c .before .before .before .before .before .args in
+    let e = same-lengths (s .self) (length (s .re .now)) (length (s .im .now)) (c .before .before .before .before .draw .ensures (s .self) refl) (c .before .before .before .if1 .taken) in
     (length-take-le _ _ (omega (arith, count c)), length-take-le _ _ (omega (arith, e, count c)))
 
 slice-aggregate-write : tie.Need-slice-aggregate-write
@@ -63,8 +63,8 @@ slice-aggregate-write c = sym (room (c .before .before .before .before .before .
 slice-relend-prefix-write-2 : tie.Need-slice-relend-prefix-write-2
 slice-relend-prefix-write-2 c =
     let r = c .before .before .before .before .before .before in
-    let s = r .before .before .before .before .args in
-    let e = same-lengths (s .t1) (length (s .re .now)) (length (s .im .now)) (r .before .before .before .draw .ensures (s .t1) refl) (r .before .before .if1 .taken) in
+    let s = r .before .before .before .before .before .args in
+    let e = same-lengths (s .self) (length (s .re .now)) (length (s .im .now)) (r .before .before .before .before .draw .ensures (s .self) refl) (r .before .before .before .if1 .taken) in
     omega (arith, e, count r)
 
 slice-aggregate-write-2 : tie.Need-slice-aggregate-write-2
@@ -78,22 +78,22 @@ returns c =
     let j = c .before in
     let d = j .before in
     let s = d .before .args in
-    let b = s .t1 in
+    let b = s .self in
     let n = length (s .re .now) in
     let m = length (s .im .now) in
     let t = d .draw .ensures b refl in
     ⊎-elim
     (λ w.
-    let k = w .2 .result in
-    let q : k ≡ min n (2560 - b .position) = w .2 .ensures ∙ ap (min n) (w .1 .ensures) in
+    let k = w .3 .result in
+    let q : k ≡ min n (2560 - b .position) = w .3 .ensures ∙ ap (min n) (w .2 .ensures) in
     let same : n ≡ m = same-lengths b n m t (w .0 .taken) in
     let e = drawn b n m t k q (w .0 .taken) in (
-      c .draw-answer .ensures ∙ rw (eq-eqb _ _ (w .0 .taken)) (ap gives (w .17) ∙ sym (ap counted e)),
+      c .draw-answer .ensures ∙ rw (eq-eqb _ _ (w .0 .taken)) (ap gives (w .18) ∙ sym (ap counted e)),
       (
-        w .16 ∙ (λ j. record { settings = b .settings; running = w .13 .ensures j; sending = b .sending; position = b .position + k }) ∙ sym (ap (λ a. after a b (λ d. d .bench)) e),
+        w .15 ∙ (λ j. record { settings = b .settings; running = w .14 .ensures j; sending = b .sending; position = b .position + k }) ∙ sym (ap (λ a. after a b (λ d. d .bench)) e),
         (
-          w .14 ∙ written-prefix _ k (s .re .now) (length-take-le _ _ (omega (arith, q))) (w .10 .ensures .0) ∙ sym (ap (λ a. after a (s .re .now) (λ d. written (d .chips .re) (s .re .now))) e),
-          w .15 ∙ written-prefix _ k (s .im .now) (length-take-le _ _ (omega (arith, q, same))) (w .10 .ensures .1) ∙ sym (ap (λ a. after a (s .im .now) (λ d. written (d .chips .im) (s .im .now))) e),
+          w .16 ∙ written-prefix _ k (s .re .now) (length-take-le _ _ (omega (arith, q))) (w .11 .ensures .0) ∙ sym (ap (λ a. after a (s .re .now) (λ d. written (d .chips .re) (s .re .now))) e),
+          w .17 ∙ written-prefix _ k (s .im .now) (length-take-le _ _ (omega (arith, q, same))) (w .11 .ensures .1) ∙ sym (ap (λ a. after a (s .im .now) (λ d. written (d .chips .im) (s .im .now))) e),
         ),
       ),
     ))
@@ -101,19 +101,19 @@ returns c =
     let e = not-drawn b n m t (w .0 .left) in (
       c .draw-answer .ensures ∙ rw (ne-eqb _ _ (w .0 .left)) (sym (ap counted e)),
       (
-        w .3 ∙ sym (ap (λ a. after a b (λ d. d .bench)) e),
-        (w .1 ∙ sym (ap (λ a. after a (s .re .now) (λ d. written (d .chips .re) (s .re .now))) e), w .2 ∙ sym (ap (λ a. after a (s .im .now) (λ d. written (d .chips .im) (s .im .now))) e)),
+        w .1 ∙ sym (ap (λ a. after a b (λ d. d .bench)) e),
+        (w .2 ∙ sym (ap (λ a. after a (s .re .now) (λ d. written (d .chips .re) (s .re .now))) e), w .3 ∙ sym (ap (λ a. after a (s .im .now) (λ d. written (d .chips .im) (s .im .now))) e)),
       ),
     ))
     (j .if1 .came)
 
 same-length : tie.Need-same-length
 same-length c =
-    ⊎-elim (λ w. ap length (w .14) ∙ length-front (c .before .before .before .args .re .now) (w .10 .last .1 .1 .1 .1 .1 .1 .0) (w .2 .result) (w .10 .kept .1 .1 .1 .1 .1 .1 .0)) (λ w. ap length (w .1)) (c .before .if1 .came)
+    ⊎-elim (λ w. ap length (w .16) ∙ length-front (c .before .before .before .args .re .now) (w .11 .last .1 .1 .1 .1 .1 .1 .0) (w .3 .result) (w .11 .kept .1 .1 .1 .1 .1 .1 .0)) (λ w. ap length (w .2)) (c .before .if1 .came)
 
 same-length-2 : tie.Need-same-length-2
 same-length-2 c =
-    ⊎-elim (λ w. ap length (w .15) ∙ length-front (c .before .before .before .args .im .now) (w .10 .last .1 .1 .1 .1 .1 .1 .1 .0) (w .2 .result) (w .10 .kept .1 .1 .1 .1 .1 .1 .1 .0)) (λ w. ap length (w .2)) (c .before .if1 .came)
+    ⊎-elim (λ w. ap length (w .17) ∙ length-front (c .before .before .before .args .im .now) (w .11 .last .1 .1 .1 .1 .1 .1 .1 .0) (w .3 .result) (w .11 .kept .1 .1 .1 .1 .1 .1 .1 .0)) (λ w. ap length (w .3)) (c .before .if1 .came)
 
 pub draw-spec : {M : Type 1} → statement M
 draw-spec =
