@@ -1,33 +1,33 @@
 -- The scrambling code's elements are imaginary at even places and real at odd ones: a product with one by two single products. Assumes nothing.
-use mathlib.Core.Path.{_≡_, ap}
+use mathlib.Core.Path.{_≡_, ap, ap₂, _∙_}
 use mathlib.Core.Bool.{Bool, true, false, cond}
 use mathlib.Core.List.{List}
 use Prim.Native.Nat.{ℕ, _+_, _*_, _%_, _<_}
 use native.Mathlib.Decide.{ℕ-discrete}
 use native.Mathlib.Omega.{arith}
-use borrow.Author.Tests.{eq-eqb, ne-eqb}
+use borrow.Author.Tests.{eq-eqb, ne-eqb, lt-ltb, le-ltb}
 use lib.Dec.{eqb, lit≤}
-use lib.IntN.{ℤ, pos, _+ℤ_, _-ℤ_, _*ℤ_, zero-*ℤ, *ℤ-zero}
+use lib.IntN.{ℤ, pos, negℤ, _+ℤ_, _-ℤ_, _*ℤ_, zero-*ℤ, *ℤ-zero}
 use lib.ListN.{getD}
 use Rattle.complex.specs.declared.Complex.{Complex}
 use Rattle.complex.specs.Arithmetic.{_+j_, real, _⊗_}
 use Rattle.complex.specs.Buffers.{listed, value}
-use Rattle.complex.proofs.Integers.{ring}
+use Rattle.complex.proofs.Integers.{ring, *ℤ-pos-one}
 use Rattle.complex.proofs.Lists.{listed-at}
 use Rattle.complex.proofs.Ring.{by-components}
 use Rattle.complex.proofs.Rotations.{rotate-0, rotate-1, rotate-2, rotate-3}
-use Rattle.codes.specs.Scrambling.{scrambling}
+use Rattle.codes.specs.Scrambling.{v, scrambling}
 use Rattle.complex.specs.Fits.{Within, Both, Bound}
 use Rattle.complex.proofs.Bounds.{bound-listed}
 use Rattle.complex.proofs.Components.{both-⊗}
 use Rattle.complex.proofs.Sizes.{within-mul}
 use Rattle.codes.proofs.Rows.{scrambling-both}
 use Rattle.modulation.specs.declared.Block.{Block}
-use Rattle.modulation.specs.Held.{block-of, turn-at, turned}
+use Rattle.modulation.specs.Held.{block-of, turn, turn-at, turned}
 use Rattle.modulation.proofs.Blocks.{block-bound}
 
 -- the size of 1 + j
-pub one-plus-j : Both 1 (pos 1 +j pos 1)
+one-plus-j : Both 1 (pos 1 +j pos 1)
 one-plus-j = record { re = record { size = lit≤ tt }; im = record { size = lit≤ tt } }
 
 -- a product of four terms, two of which are 0 on the left and one on the right
@@ -91,3 +91,36 @@ turned-bound {k} {even = even} {odd} f g h e = rw e (bound-listed (2 * k) 16 _ (
     pick : (b : Bool) (i : ℕ) → Within k (cond b (getD even i (pos 0)) (getD odd i (pos 0)))
     pick true i = g .at i
     pick false i = h .at i
+
+-- ---- the turns by signs
+-- (a + b j)(1 + j)
+times-one-plus-j : (a b : ℤ) → (a +j b) ⊗ (pos 1 +j pos 1) ≡ (a -ℤ b) +j (a +ℤ b)
+unfolding _⊗_
+times-one-plus-j a b = by-components (ap₂ _-ℤ_ (*ℤ-pos-one a) (*ℤ-pos-one b)) (ap₂ _+ℤ_ (*ℤ-pos-one a) (*ℤ-pos-one b))
+
+-- by j and by -j, where one of a and b is 0
+module _ (x : ℤ) where
+  by-1 : (pos 0 -ℤ x) +j (pos 0 +ℤ x) ≡ negℤ x +j x
+  by-1 = by-components (simp ring) (simp ring)
+
+  by-2 : (negℤ x -ℤ pos 0) +j (negℤ x +ℤ pos 0) ≡ negℤ x +j negℤ x
+  by-2 = by-components (simp ring) (simp ring)
+
+  by-3 : (pos 0 -ℤ negℤ x) +j (pos 0 +ℤ negℤ x) ≡ x +j negℤ x
+  by-3 = by-components (simp ring) (simp ring)
+
+  by-0 : (x -ℤ pos 0) +j (x +ℤ pos 0) ≡ x +j x
+  by-0 = by-components (simp ring) (simp ring)
+
+pub turn-is : (p i : ℕ) → turn-at p i ≡ turn (v p (i + 1)) i +j turn (v p (i + 1)) (i + 3)
+unfolding scrambling real
+turn-is p i = go (ℕ-discrete ((i + 1) % 4) 0) (ℕ-discrete ((i + 1) % 4) 1) (ℕ-discrete ((i + 1) % 4) 2)
+  where
+    turned-by : {z : Complex} → scrambling p (i + 1) ≡ z → turn-at p i ≡ z ⊗ (pos 1 +j pos 1)
+    turned-by e = ap (λ (z : Complex). z ⊗ (pos 1 +j pos 1)) e
+
+    go : Dec ((i + 1) % 4 ≡ 0) → Dec ((i + 1) % 4 ≡ 1) → Dec ((i + 1) % 4 ≡ 2) → turn-at p i ≡ turn (v p (i + 1)) i +j turn (v p (i + 1)) (i + 3)
+    go (yes e) d f = rw (le-ltb (i % 4) 2 (omega arith), le-ltb ((i + 3) % 4) 2 (omega arith)) (turned-by (rotate-0 (i + 1) (real (v p (i + 1))) e) ∙ times-one-plus-j (v p (i + 1)) (pos 0) ∙ by-0 (v p (i + 1)))
+    go (no d) (yes e) f = rw (lt-ltb (i % 4) 2 (omega arith), le-ltb ((i + 3) % 4) 2 (omega arith)) (turned-by (rotate-1 (i + 1) (real (v p (i + 1))) e) ∙ times-one-plus-j (pos 0) (v p (i + 1)) ∙ by-1 (v p (i + 1)))
+    go (no d) (no f) (yes e) = rw (lt-ltb (i % 4) 2 (omega arith), lt-ltb ((i + 3) % 4) 2 (omega arith)) (turned-by (rotate-2 (i + 1) (real (v p (i + 1))) e) ∙ times-one-plus-j (negℤ (v p (i + 1))) (pos 0) ∙ by-2 (v p (i + 1)))
+    go (no d) (no f) (no g) = rw (le-ltb (i % 4) 2 (omega arith), lt-ltb ((i + 3) % 4) 2 (omega arith)) (turned-by (rotate-3 (i + 1) (real (v p (i + 1))) (omega arith)) ∙ times-one-plus-j (pos 0) (negℤ (v p (i + 1))) ∙ by-3 (v p (i + 1)))

@@ -1,9 +1,9 @@
 -- How the code computes what the other files define. Nothing here is document 01's: the contracts of the bench's calls do not name it.
-use lib.IntN.{ℤ, pos, _+ℤ_, _-ℤ_, _*ℤ_}
+use lib.IntN.{ℤ, pos, negℤ, _+ℤ_, _-ℤ_, _*ℤ_}
 use Prim.Native.Nat.{ℕ, _+_, _*_, _/_, _%_}
 use mathlib.Core.List.{List}
 use mathlib.Core.Bool.{Bool, not, cond}
-use lib.Dec.{eqb}
+use lib.Dec.{eqb, ltb}
 use lib.ListN.{getD}
 use Rattle.complex.specs.declared.Complex.{Complex}
 use Rattle.complex.specs.Arithmetic.{_+j_, real, _⊕_, _⊗_, Σℤ<}
@@ -72,6 +72,10 @@ component z re = cond re (z .re) (z .im)
 -- the turn of chip i: scrambling element i + 1 times 1 + j
 abbrev pub turn-at : ℕ → ℕ → Complex
 turn-at p i = scrambling p (i + 1) ⊗ (pos 1 +j pos 1)
+
+-- its component from the sign x of chip i: the real one at place i, the imaginary one at place i + 3
+abbrev pub turn : ℤ → ℕ → ℤ
+turn x i = cond (ltb (i % 4) 2) (negℤ x) x
 
 -- entry i of the turns t times that of `even` or of `odd`, by the place's parity
 abbrev pub turned : List ℤ → List ℤ → List ℤ → ℕ → ℤ

@@ -10,7 +10,7 @@ ghost use Rattle.complex.specs.Fits.{Bound, Within};
 ghost use Rattle.codes.specs.Tree.{is-spreading-factor, width};
 ghost use Rattle.modulation.specs.Symbols.{symbol as symbol-of};
 ghost use Rattle.modulation.specs.Nodes.{node as node-of};
-ghost use Rattle.modulation.specs.Held.{block-of, climbed as climbed-of, component as component-of, has-open, joined as joined-of, levels-of, raised as raised-of, spread as spread-of, turn-at, turned as turned-of};
+ghost use Rattle.modulation.specs.Held.{block-of, climbed as climbed-of, component as component-of, has-open, joined as joined-of, levels-of, raised as raised-of, spread as spread-of, turn as turn-of, turn-at, turned as turned-of};
 use crate::Block;
 use codes::CellParameter;
 use codes::scrambling;
@@ -191,18 +191,25 @@ pub fn spread(gains: &[u16; 31], levels: OpenLevels, s: &[i32; 16]) -> [i32; 16]
     climbed(gains, levels.q1, s, &x2, 1)
 }
 
-// A cell's turns: the elements of its scrambling code, each times 1 + j. The elements themselves are imaginary at even places, from 0, and real at
-// odd ones, so that each component of a product with one is a single product, with a component of its turn.
+// x, with its sign changed at the first two of each four places.
+fn turn(x: i32, i: usize) -> i32
+    requires { ⌜ Within 1 x ⌝ }
+    ensures { λ r. ⌜ r ≡ turn-of x i ⌝ }
+{
+    if i % 4 < 2 { -x } else { x }
+}
+
+// A cell's turns: the elements of its scrambling code, each times 1 + j, which are its signs with signs that repeat every four places. The elements
+// themselves are imaginary at even places, from 0, and real at odd ones, so each component of a product with one is a single product with its turn.
 pub fn turns(cell: CellParameter) -> Block
     ensures { λ r. ⌜ r ≡ block-of (turn-at (cell .0)) ⌝ }
 {
-    let one_plus_j = Complex { re: 1, im: 1 };
     let mut re = [0i32; 16];
     let mut im = [0i32; 16];
     for i in 0..16 {
-        let y = scrambling::element(cell, i as u32).times(one_plus_j);
-        let a = y.re;
-        let b = y.im;
+        let v = scrambling::sign(cell, i as u32);
+        let a = turn(v, i);
+        let b = turn(v, i + 3);
         re[i] = a;
         im[i] = b;
     }

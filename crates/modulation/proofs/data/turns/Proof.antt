@@ -1,36 +1,54 @@
 -- `turns` meets its contract: the loop fills both arrays. Assumes nothing.
-use mathlib.Core.Path.{ap, _∙_}
+use mathlib.Core.Path.{_≡_, sym, subst, ap, _∙_}
 use Prim.Native.Nat.{_+_, _-_}
 use native.Mathlib.Omega.{arith}
 use borrow.Author.Needs.{needs}
-use lib.IntN.{pos}
+use lib.IntN.{ℤ}
+use mir.Syntax.{w32}
+use mir.Val.{toZ, ofZ}
+use mir.Facts.{toZ-ofZ}
 use Rattle.complex.specs.declared.Complex.{Complex}
-use Rattle.complex.specs.Arithmetic.{_+j_, _⊗_}
-use Rattle.complex.proofs.Components.{product-fits}
-use Rattle.codes.proofs.Rows.{scrambling-both}
-use Rattle.modulation.specs.Held.{turn-at}
-use Rattle.modulation.proofs.Turns.{one-plus-j}
-use Rattle.modulation.proofs.Blocks.{Filled, filled-none, filled-more, filled-all}
+use Rattle.complex.specs.Fits.{Within}
+use Rattle.complex.proofs.Sizes.{fits-within}
+use Rattle.codes.specs.Scrambling.{v}
+use Rattle.codes.proofs.Rows.{v-within}
+use Rattle.modulation.specs.Held.{turn, turn-at}
+use Rattle.modulation.proofs.Blocks.{Filled, filled-none, filled-all, row-more}
+use Rattle.modulation.proofs.Turns.{turn-is}
 use Rattle.modulation.proofs.data.turns.Statement.{statement}
 use Rattle.modulation.proofs.data.turns.Tie as tie
 
 abbrev Inv-loop : tie.InvT-loop
-Inv-loop cell one_plus_j re₀ im₀ i₀ re im i = Filled (turn-at (cell .0)) re im i
+Inv-loop cell re₀ im₀ i₀ re im i = Filled (turn-at (cell .0)) re im i
 
 abbrev μ-loop : tie.MeasureT-loop
-μ-loop cell one_plus_j re₀ im₀ i₀ re im i = 16 - i
+μ-loop cell re₀ im₀ i₀ re im i = 16 - i
 
-times-requires : tie.Need-times-requires Inv-loop μ-loop
-times-requires c κs =
-    rw (c .element .ensures) (product-fits (scrambling-both _ _) one-plus-j tt tt)
+-- the sign as the local holds it, and its size
+module _ (c : tie.After-sign Inv-loop μ-loop) where
+  abbrev sign-at : ℤ
+  sign-at = v (c .before .before .before .args .cell .0) (c .before .before .loop .i + 1)
+
+  small : Within 1 (c .sign .result)
+  small = subst (Within 1) (sym (c .sign .ensures)) (v-within _ _)
+
+  sign-is : toZ w32 (ofZ w32 (c .sign .result)) ≡ sign-at
+  sign-is = toZ-ofZ (fits-within small tt) ∙ c .sign .ensures
+
+turn-requires : tie.Need-turn-requires Inv-loop μ-loop
+turn-requires c κs = rw (sign-is c) (v-within _ _)
+
+turn-requires-2 : tie.Need-turn-requires-2 Inv-loop μ-loop
+turn-requires-2 c κs = rw (sign-is (c .before)) (v-within _ _)
 
 loop-again : tie.Need-loop-again Inv-loop μ-loop
 loop-again c =
-    let r = c .before .before .times in
-    filled-more (c .before .before .before .before .before .loop .inv) (omega arith) (r .result) (search needs) (r .ensures ∙ ap (λ (w : Complex). w ⊗ (pos 1 +j pos 1)) (c .before .before .before .element .ensures))
-
-returns : tie.Need-returns Inv-loop μ-loop
-returns c = filled-all (c .before .loop .inv) (omega arith)
+    let s = c .before .before in
+    let l = s .before .before .loop in
+    let e = turn-is (s .before .before .before .args .cell .0) (l .i) in
+    let re = c .before .turn .ensures ∙ ap (λ (x : ℤ). turn x (l .i)) (sign-is s) ∙ sym (ap (λ (z : Complex). z .re) e) in
+    let im = c .turn2 .ensures ∙ ap (λ (x : ℤ). turn x (l .i + 3)) (sign-is s) ∙ sym (ap (λ (z : Complex). z .im) e) in
+    record { res = row-more (l .inv .res) (omega arith) (search needs) re; ims = row-more (l .inv .ims) (omega arith) (search needs) im }
 
 pub turns-spec : {M : Type 1} → statement M
 turns-spec =
@@ -41,7 +59,9 @@ turns-spec =
     (λ c. filled-none)
     (λ c. omega arith)
     (λ c κs. search needs)
-    times-requires
+    turn-requires
+    (λ c. omega arith)
+    turn-requires-2
     (λ c. omega arith)
     (λ c. omega arith)
     (λ c. omega arith)
@@ -49,4 +69,4 @@ turns-spec =
     (λ c. omega arith)
     (λ c. omega arith)
     loop-again
-    returns)
+    (λ c. filled-all (c .before .loop .inv) (omega arith)))
