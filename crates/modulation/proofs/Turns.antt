@@ -98,7 +98,7 @@ times-one-plus-j : (a b : ℤ) → (a +j b) ⊗ (pos 1 +j pos 1) ≡ (a -ℤ b) 
 unfolding _⊗_
 times-one-plus-j a b = by-components (ap₂ _-ℤ_ (*ℤ-pos-one a) (*ℤ-pos-one b)) (ap₂ _+ℤ_ (*ℤ-pos-one a) (*ℤ-pos-one b))
 
--- by j and by -j, where one of a and b is 0
+-- times 1, j, -1 and -j: one of a and b is 0
 module _ (x : ℤ) where
   by-1 : (pos 0 -ℤ x) +j (pos 0 +ℤ x) ≡ negℤ x +j x
   by-1 = by-components (simp ring) (simp ring)

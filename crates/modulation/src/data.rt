@@ -199,8 +199,8 @@ fn turn(x: i32, i: usize) -> i32
     if i % 4 < 2 { -x } else { x }
 }
 
-// A cell's turns: the elements of its scrambling code, each times 1 + j, which are its signs with signs that repeat every four places. The elements
-// themselves are imaginary at even places, from 0, and real at odd ones, so each component of a product with one is a single product with its turn.
+// A cell's turns: the elements of its scrambling code, each times 1 + j; their components are the code's signs, some changed, by a pattern of four
+// places. The elements themselves are imaginary at even places, from 0, and real at odd ones, so each component of a product with one is a single product.
 pub fn turns(cell: CellParameter) -> Block
     ensures { λ r. ⌜ r ≡ block-of (turn-at (cell .0)) ⌝ }
 {

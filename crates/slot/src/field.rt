@@ -256,7 +256,7 @@ fn cut(end: usize, from: usize, n: usize) -> usize
 }
 
 // The chips of the slot of these settings from chip `from` on, as many as the buffers have, 0 past the slot's end: each of the slot's four
-// parts is written into its own part of the buffers. The tables are lent, for a copy of them takes as long as some of the blocks.
+// parts is written into its own part of the buffers. The tables are lent, so that they are not copied again on the way.
 pub fn write<'a>(
     cell: CellParameter,
     kind: u32,

@@ -1,5 +1,4 @@
 -- `turn` meets its contract: x or its negative. Assumes nothing.
-use borrow.Author.Needs.{needs}
 use borrow.Author.Tests.{lt-ltb, le-ltb}
 use lib.IntN.{negℤ}
 use mir.Syntax.{w32}
