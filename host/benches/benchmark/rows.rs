@@ -194,7 +194,7 @@ fn draw_one_chip(rows: &mut Rows) {
                 b.position = 100;
                 // SAFETY: both buffers have an entry.
                 let r = unsafe { ffi::tdd_bench_draw(*b, x.re.as_mut_ptr(), 1, x.im.as_mut_ptr(), 1) };
-                *b = r.bench;
+                (b.running, b.position) = (r.bench.running, r.bench.position);
                 if r.refusal == 0 { Ok(r.count) } else { Err(r.refusal) }
             }),
             by_value(|mut b, x| {
