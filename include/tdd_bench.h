@@ -254,7 +254,7 @@ static inline uint32_t tdd_start(tdd_bench *bench) {
 static inline uint32_t tdd_draw(tdd_bench *bench, int32_t *re, size_t re_length, int32_t *im, size_t im_length, size_t *count) {
     tdd_draw_result r = tdd_bench_draw(*bench, re, re_length, im, im_length);
     if (r.refusal == 0) {
-        /* A draw changes these two alone, so the rest of the bench, some 4.6 KB, is not copied back for every piece. */
+        /* Of the bench a draw changes these two alone, so the rest, some 4.6 KB, is not copied back for every piece. */
         bench->running = r.bench.running;
         bench->position = r.bench.position;
     }

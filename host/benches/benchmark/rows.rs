@@ -90,7 +90,7 @@ fn draw(rows: &mut Rows, name: &str, length: usize, bench: &ffi::Bench) {
 
 // ---- Calls of the bench that take and leave little.
 
-/// What the library's safe wrappers do with a result: they keep the bench that comes back.
+/// What the library's safe wrappers do with a `CallResult`: they keep the bench that comes back.
 fn keep(bench: &mut ffi::Bench, result: CallResult) -> Answer {
     *bench = result.bench;
     if result.refusal == 0 { Ok(()) } else { Err(result.refusal) }
