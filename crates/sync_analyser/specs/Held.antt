@@ -2,8 +2,8 @@
 use mathlib.Core.Path.{_≡_}
 use mathlib.Core.Logic.{_≢_}
 use lib.IntN.{ℤ, pos, negℤ, natAbs, _+ℤ_, _-ℤ_, _*ℤ_}
-use Prim.Native.Nat.{ℕ, _+_, _*_, _/_, _%_, _<_}
-use mathlib.Core.Bool.{true, false, _&&_, cond}
+use Prim.Native.Nat.{ℕ, _+_, _*_, _/_, _%_, _<_, _≤_}
+use mathlib.Core.Bool.{Bool, true, false, _&&_, cond}
 use mathlib.Core.List.{List}
 use lib.Dec.{eqb}
 use lib.ListN.{getD}
@@ -103,22 +103,26 @@ abbrev pub sizes : List ℤ → List ℤ → ℕ → ℤ
 sizes re im k = size-of (entries re k) (entries im k)
 
 -- ---- the largest size by blocks
--- -|x|, and the smaller of low and that
+-- -|x|, and the smaller of low and -(|x| + |y|)
 abbrev pub lowered-of : ℤ → ℤ
 lowered-of x = cond (ltZ (pos 0) x) (negℤ x) x
 
-abbrev pub lower-of : ℤ → ℤ → ℤ
-lower-of low x = cond (ltZ (lowered-of x) low) (lowered-of x) low
+abbrev pub lower-of : ℤ → ℤ → ℤ → ℤ
+lower-of low x y = cond (ltZ (lowered-of x +ℤ lowered-of y) low) (lowered-of x +ℤ lowered-of y) low
 
--- low is not positive, and as large as each of n entries
-pub record Covers (x : List ℤ) (from n : ℕ) (low : ℤ) : Type 0 where
+-- low is not positive, and as large as |x| + |y| is at each of n entries
+pub record Covers (x y : List ℤ) (from n : ℕ) (low : ℤ) : Type 0 where
   pub sign : leZ low (pos 0) ≡ true
-  pub size : Within 25600000 low
-  pub each : (i : ℕ) → i < n → Within (natAbs low) (entries x (from + i))
+  pub size : Within 51200000 low
+  pub each : (i : ℕ) → i < n → natAbs (entries x (from + i)) + natAbs (entries y (from + i)) ≤ natAbs low
 
--- of `count` values s, the first n passed: the largest of them, the earliest where several are; before any, value 0
-pub record PeaksBelow (s : ℕ → ℤ) (count n : ℕ) (b : Largest) : Type 0 where
+-- of n blocks of 32 values s, each value is at most its block's entry
+pub record Bounded (s : ℕ → ℤ) (n : ℕ) (bounds : List ℤ) : Type 0 where
+  pub each : (k : ℕ) → k < n → (i : ℕ) → i < 32 → leZ (s (k * 32 + i)) (entries bounds k) ≡ true
+
+-- b is one of `count` values s. Of the first n, none that counts is larger; of those before it, none that counts is as large
+pub record PeaksBelow (s : ℕ → ℤ) (c : ℕ → Bool) (count n : ℕ) (b : Largest) : Type 0 where
   pub below : b .at < count
   pub own : b .value ≡ s (b .at)
-  pub largest : (k : ℕ) → k < n → leZ (s k) (s (b .at)) ≡ true
-  pub earliest : (k : ℕ) → k < b .at → ltZ (s k) (s (b .at)) ≡ true
+  pub largest : (k : ℕ) → k < n → c k ≡ true → leZ (s k) (s (b .at)) ≡ true
+  pub earliest : (k : ℕ) → k < b .at → c k ≡ true → ltZ (s k) (s (b .at)) ≡ true

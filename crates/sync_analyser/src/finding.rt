@@ -1,17 +1,18 @@
 // Finding the primary code in a recording.
 ghost use mathlib.Core.Path.{_≡_};
-ghost use mathlib.Core.Bool.{_||_};
-ghost use Prim.Native.Nat.{_+_, _<_, _≤_};
+ghost use mathlib.Core.Bool.{Bool, true, _||_};
+ghost use Prim.Native.Nat.{ℕ, _+_, _/_, _<_, _≤_};
 ghost use lib.Dec.{ltb};
 ghost use lib.IntN.{_+ℤ_, _-ℤ_};
 ghost use lib.ListN.{length, take};
+ghost use lib.Signed.{leZ};
 ghost use Rattle.complex.specs.Arithmetic.{squared-size};
 ghost use Rattle.complex.specs.Buffers.{listed, value, written};
 ghost use Rattle.complex.specs.Fits.{Within, Both, Bound};
 ghost use Rattle.codes.specs.Refusals.{number};
 ghost use Rattle.analyser.specs.Held.{Peaks};
 ghost use Rattle.sync_analyser.specs.Finding.{find-refusals, longest-recording, peak as peak-of, scratch-length, shortest-recording, starts};
-ghost use Rattle.sync_analyser.specs.Held.{Covers, entries, four-of, lower-of, lowered-of, PeaksBelow, primary-sum, size-of, sizes};
+ghost use Rattle.sync_analyser.specs.Held.{Bounded, Covers, entries, four-of, lower-of, lowered-of, PeaksBelow, primary-sum, size-of, sizes};
 use crate::Peak;
 use crate::sums::sum_of_products;
 use crate::sums::times_one_minus_j;
@@ -132,31 +133,63 @@ fn lowered(x: i32) -> i32
     if 0 < x { -x } else { x }
 }
 
-// The smaller of low and -|x|.
-fn lower(low: i32, x: i32) -> i32
-    requires { ⌜ Within 25600000 x ⌝ }
-    ensures { λ r. ⌜ r ≡ lower-of low x ⌝ }
+// The smaller of low and -(|re| + |im|).
+fn lower(low: i32, re: i32, im: i32) -> i32
+    requires { ⌜ Within 25600000 re × Within 25600000 im ⌝ }
+    ensures { λ r. ⌜ r ≡ lower-of low re im ⌝ }
 {
-    let y = lowered(x);
+    let y = lowered(re) + lowered(im);
     if y < low { y } else { low }
 }
 
-// How large the entries of a block of 32 are, as a number that is not positive: vector code compares signed numbers.
-fn lowest(x: &[i32], from: usize) -> i32
-    requires { ⌜ (from + 32 ≤ length (now x)) × (length (now x) ≤ 5120) × Bound 25600000 (now x) ⌝ }
-    ensures { λ r. ⌜ Covers (now (x .entry)) from 32 r ⌝ }
+// How large |re| + |im| gets in a block of 32 starts, as a number that is not positive: vector code compares signed numbers.
+fn lowest(re: &[i32], im: &[i32], from: usize) -> i32
+    requires { ⌜ (from + 32 ≤ length (now re)) × (length (now re) ≡ length (now im)) × (length (now re) ≤ 5120) × Bound 25600000 (now re) × Bound 25600000 (now im) ⌝ }
+    ensures { λ r. ⌜ Covers (now (re .entry)) (now (im .entry)) from 32 r ⌝ }
 {
     let mut low: i32 = 0;
     for i in 0..32 {
-        low = lower(low, x[from + i]);
+        low = lower(low, re[from + i], im[from + i]);
     }
     low
 }
 
-// The largest size, once the starts from `from` to `end` are looked at.
+// What the sizes in each block of 32 starts are at most: 2 (re² + im²) is at most 2 (|re| + |im|)².
+fn bounds(re: &[i32], im: &[i32]) -> [i64; 160]
+    requires { ⌜ (length (now re) ≡ length (now im)) × (length (now re) ≤ 5120) × Bound 25600000 (now re) × Bound 25600000 (now im) ⌝ }
+    ensures { λ r. ⌜ Bounded (sizes (now (re .entry)) (now (im .entry))) (length (now (re .entry)) / 32) r ⌝ }
+{
+    let mut all = [0i64; 160];
+    for k in 0..re.len() / 32 {
+        let low = lowest(re, im, k * 32);
+        all[k] = squared(Complex { re: low, im: low });
+    }
+    all
+}
+
+// Where the largest of the first n bounds stands.
+fn highest(bounds: &[i64; 160], n: usize) -> usize
+    requires { ⌜ (0 < n) × (n ≤ 160) ⌝ }
+    ensures { λ r. ⌜ r < n ⌝ }
+{
+    let mut top = Largest {
+        at: 0,
+        value: bounds[0],
+    };
+    for k in 1..n {
+        let next = Largest {
+            at: k,
+            value: bounds[k],
+        };
+        top = top.or_later(next);
+    }
+    top.at
+}
+
+// The largest size, once the starts from `from` to `end` are looked at, whichever starts c counts.
 fn look(best: Largest, re: &[i32], im: &[i32], from: usize, end: usize) -> Largest
-    requires { ⌜ (from ≤ end) × (end ≤ length (now re)) × (length (now re) ≡ length (now im)) × (length (now re) ≤ 5120) × Bound 25600000 (now re) × Bound 25600000 (now im) × PeaksBelow (sizes (now re) (now im)) (length (now re)) from best ⌝ }
-    ensures { λ r. ⌜ PeaksBelow (sizes (now (re .entry)) (now (im .entry))) (length (now (re .entry))) end r ⌝ }
+    requires { ⌜ (from ≤ end) × (end ≤ length (now re)) × (length (now re) ≡ length (now im)) × (length (now re) ≤ 5120) × Bound 25600000 (now re) × Bound 25600000 (now im) ⌝ }
+    ensures { λ r. ⌜ ((c : ℕ → Bool) → PeaksBelow (sizes (now (re .entry)) (now (im .entry))) c (length (now (re .entry))) from best → PeaksBelow (sizes (now (re .entry)) (now (im .entry))) c (length (now (re .entry))) end r) ⌝ }
 {
     let mut found = best;
     for i in from..end {
@@ -169,31 +202,47 @@ fn look(best: Largest, re: &[i32], im: &[i32], from: usize, end: usize) -> Large
     found
 }
 
-// The same for the 32 starts from `from` on. They are not looked at where the largest parts of them all could not make a larger size.
-fn block(best: Largest, re: &[i32], im: &[i32], from: usize) -> Largest
-    requires { ⌜ (from + 32 ≤ length (now re)) × (length (now re) ≡ length (now im)) × (length (now re) ≤ 5120) × Bound 25600000 (now re) × Bound 25600000 (now im) × PeaksBelow (sizes (now re) (now im)) (length (now re)) from best ⌝ }
-    ensures { λ r. ⌜ PeaksBelow (sizes (now (re .entry)) (now (im .entry))) (length (now (re .entry))) (from + 32) r ⌝ }
+// A size that the largest one reaches: the largest of the block with the highest bound. Of fewer than 32 starts, the first one's.
+fn floor(first: Largest, re: &[i32], im: &[i32], bounds: &[i64; 160], n: usize) -> i64
+    requires { ⌜ (n ≤ length (now re) / 32) × (length (now re) ≡ length (now im)) × (length (now re) ≤ 5120) × Bound 25600000 (now re) × Bound 25600000 (now im) × (first .at < length (now re)) × (first .value ≡ sizes (now re) (now im) (first .at)) ⌝ }
+    ensures { λ r. ⌜ ((k : ℕ) × (k < length (now (re .entry))) × (r ≡ sizes (now (re .entry)) (now (im .entry)) k)) ⌝ }
 {
-    let bound = size(lowest(re, from), lowest(im, from));
-    if best.value < bound {
+    if n == 0 {
+        return first.value;
+    }
+    let from = highest(bounds, n) * 32;
+    look(first, re, im, from, from + 32).value
+}
+
+// The largest of the sizes that are `floor` or more, once the 32 starts from `from` on are passed, whose sizes are at most `bound`. They
+// are looked at only where one of them could be `floor` or more, and larger than the best.
+fn block(best: Largest, floor: i64, bound: i64, re: &[i32], im: &[i32], from: usize) -> Largest
+    requires { ⌜ (from + 32 ≤ length (now re)) × (length (now re) ≡ length (now im)) × (length (now re) ≤ 5120) × Bound 25600000 (now re) × Bound 25600000 (now im) × ((i : ℕ) → i < 32 → leZ (sizes (now re) (now im) (from + i)) bound ≡ true) × PeaksBelow (sizes (now re) (now im)) (λ k. leZ floor (sizes (now re) (now im) k)) (length (now re)) from best ⌝ }
+    ensures { λ r. ⌜ PeaksBelow (sizes (now (re .entry)) (now (im .entry))) (λ k. leZ floor (sizes (now (re .entry)) (now (im .entry)) k)) (length (now (re .entry))) (from + 32) r ⌝ }
+{
+    if floor <= bound && best.value < bound {
         return look(best, re, im, from, from + 32);
     }
     best
 }
 
-// The largest size of all starts, the earliest of equal ones.
+// The largest size of all starts, the earliest of equal ones. With what the block of the highest bound has, few others are looked at.
 fn strongest(re: &[i32], im: &[i32]) -> Largest
     requires { ⌜ (0 < length (now re)) × (length (now re) ≡ length (now im)) × (length (now re) ≤ 5120) × Bound 25600000 (now re) × Bound 25600000 (now im) ⌝ }
     ensures { λ r. ⌜ Peaks (sizes (now (re .entry)) (now (im .entry))) (length (now (re .entry))) r ⌝ }
 {
-    let mut best = Largest {
+    let n = re.len() / 32;
+    let first = Largest {
         at: 0,
         value: size(re[0], im[0]),
     };
-    for k in 0..re.len() / 32 {
-        best = block(best, re, im, k * 32);
+    let most = bounds(re, im);
+    let least = floor(first, re, im, &most, n);
+    let mut best = first;
+    for k in 0..n {
+        best = block(best, least, most[k], re, im, k * 32);
     }
-    look(best, re, im, re.len() / 32 * 32, re.len())
+    look(best, re, im, n * 32, re.len())
 }
 
 // The peak of a recording.

@@ -1,6 +1,7 @@
 -- `look` meets its contract. The loop's invariant: `found` is the largest of the sizes passed, the earliest of equal ones. Assumes nothing.
 use mathlib.Core.Path.{_≡_, sym, _∙_, subst}
-use Prim.Native.Nat.{_+_, _-_, _≤_}
+use mathlib.Core.Bool.{Bool}
+use Prim.Native.Nat.{ℕ, _+_, _-_, _≤_}
 use native.Mathlib.Omega.{arith}
 use borrow.Author.Needs.{needs}
 use lib.ListN.{length}
@@ -15,13 +16,13 @@ use Rattle.sync_analyser.proofs.finding.look.Statement.{statement}
 use Rattle.sync_analyser.proofs.finding.look.Tie as tie
 
 abbrev Inv-loop : tie.InvT-loop
-Inv-loop re im from end found₀ i₀ found i = (from ≤ i) × (i ≤ end) × PeaksBelow (sizes re im) (length re) i found
+Inv-loop re im from end found₀ i₀ found i = (from ≤ i) × (i ≤ end) × ((c : ℕ → Bool) → PeaksBelow (sizes re im) c (length re) from found₀ → PeaksBelow (sizes re im) c (length re) i found)
 
 abbrev μ-loop : tie.MeasureT-loop
 μ-loop re im from end found₀ i₀ found i = end - i
 
 loop-holds : tie.Need-loop-holds Inv-loop μ-loop
-loop-holds c = (omega arith, omega arith, c .pre .6)
+loop-holds c = (omega arith, omega arith, λ t h. h)
 
 mul-size : tie.Need-mul-size Inv-loop μ-loop
 mul-size c = omega arith
@@ -39,7 +40,9 @@ size-requires : tie.Need-size-requires Inv-loop μ-loop
 size-requires c κs =
     let s = c .before .before .before .before in
     let i = c .before .before .before .loop .i in
-    (held (toZ-ofZ (fits-within (s .pre .4 .at i) tt)) (s .pre .4 .at i), held (toZ-ofZ (fits-within (s .pre .5 .at i) tt)) (s .pre .5 .at i))
+    let re = held (toZ-ofZ {w = w32} (fits-within (s .pre .4 .at i) tt)) (s .pre .4 .at i) in
+    let im = held (toZ-ofZ {w = w32} (fits-within (s .pre .5 .at i) tt)) (s .pre .5 .at i) in
+    (search needs, search needs)
 
 or-later-requires : tie.Need-or-later-requires Inv-loop μ-loop
 or-later-requires c κs = search needs
@@ -57,8 +60,12 @@ loop-again c =
     let re = toZ-ofZ {w = w32} (fits-within (s .pre .4 .at (l .i)) tt) in
     let im = toZ-ofZ {w = w32} (fits-within (s .pre .5 .at (l .i)) tt) in
     let f : SFits w64 (c .before .size .result) = search needs in
-    let next = one-passed (sizes (s .args .re .now) (s .args .im .now)) (length (s .args .re .now)) (l .i) (l .found) (omega arith) (l .inv .2) _ (toZ-ofZ f ∙ c .before .size .ensures ∙ (λ t. size-of (re t) (im t))) in
-    (omega arith, omega arith, subst (PeaksBelow _ _ (l .i + 1)) (sym (c .or-later .ensures)) next)
+    let value-is = toZ-ofZ f ∙ c .before .size .ensures ∙ (λ t. size-of (re t) (im t)) in (
+      omega arith,
+      omega arith,
+      λ t h. subst (PeaksBelow (sizes (s .args .re .now) (s .args .im .now)) t (length (s .args .re .now)) (l .i + 1)) (sym (c .or-later .ensures))
+          (one-passed _ _ t (l .i) (l .found) (omega arith) (l .inv .2 t h) _ value-is),
+    )
 
 returns : tie.Need-returns Inv-loop μ-loop
 returns c =
