@@ -5,7 +5,7 @@ use mathlib.Core.Bool.{true, false}
 use Prim.Native.Nat.{ℕ, _+_, _≤_, _<_}
 use native.Mathlib.Nat.{mul-le-mul-left}
 use native.Mathlib.Omega.{arith}
-use borrow.Author.Tests.{leb-true, ltb-true, ltb-false, le-leb, lt-leb, lt-ltb, le-ltb}
+use borrow.Author.Tests.{leb-true, leb-false, ltb-true, ltb-false, le-leb, lt-leb, lt-ltb, le-ltb}
 use lib.Dec.{T}
 use lib.IntN.{ℤ, pos, negsuc, _*ℤ_}
 use lib.Signed.{leZ, ltZ}
@@ -28,6 +28,12 @@ leZ-true (pos a) (pos b) e = omega (arith, leb-true a b e)
 leZ-true (pos a) (negsuc b) e = absurd (subst T (sym e) tt)
 leZ-true (negsuc a) (pos b) e = omega arith
 leZ-true (negsuc a) (negsuc b) e = omega (arith, leb-true b a e)
+
+pub leZ-false : (x y : ℤ) → leZ x y ≡ false → pos-part y + neg-part x < pos-part x + neg-part y
+leZ-false (pos a) (pos b) e = omega (arith, leb-false a b e)
+leZ-false (pos a) (negsuc b) e = omega arith
+leZ-false (negsuc a) (pos b) e = absurd (subst T e tt)
+leZ-false (negsuc a) (negsuc b) e = omega (arith, leb-false b a e)
 
 pub le-leZ : (x y : ℤ) → pos-part x + neg-part y ≤ pos-part y + neg-part x → leZ x y ≡ true
 le-leZ (pos a) (pos b) h = le-leb a b (omega arith)

@@ -7,7 +7,6 @@ use Prim.Native.Nat.{ℕ, _+_, _*_, _-_, _<_, _≤_}
 use native.Mathlib.Decide.{decLe}
 use native.Mathlib.Nat.{lt-of-not-le, mul-le-mul, add-mul, mul-add}
 use native.Mathlib.Omega.{arith}
-use borrow.Author.Tests.{leb-false}
 use lib.Dec.{T}
 use lib.IntN.{ℤ, pos, negsuc, negℤ, natAbs, _+ℤ_, _-ℤ_, _*ℤ_}
 use lib.ListN.{length, set}
@@ -16,19 +15,12 @@ use lib.Signed.{leZ, ltZ}
 use Rattle.complex.specs.Arithmetic.{_+j_, squared-size}
 use Rattle.complex.specs.Fits.{Within}
 use Rattle.complex.proofs.Integers.{ring, abs-parts, by-parts, pos-part, neg-part, +ℤ-parts, negℤ-pos-part, negℤ-neg-part}
-use Rattle.complex.proofs.Order.{ltZ-true, ltZ-false, leZ-true, le-leZ, lt-ltZ}
+use Rattle.complex.proofs.Order.{ltZ-true, ltZ-false, leZ-true, leZ-false, le-leZ, lt-ltZ}
 use Rattle.analyser.specs.Held.{or-later, Peaks}
 use Rattle.analyser.specs.declared.largest.Largest.{Largest}
 use Rattle.analyser.proofs.Choosing.{next}
 use Rattle.sync_analyser.specs.Held.{Bounded, Covers, entries, lower-of, lowered-of, PeaksBelow, size-of}
 use Rattle.sync_analyser.proofs.Correlations.{times-one-minus-j}
-
--- what is not at most is more
-pub leZ-false : (x y : ℤ) → leZ x y ≡ false → pos-part y + neg-part x < pos-part x + neg-part y
-leZ-false (pos a) (pos b) e = omega (arith, leb-false a b e)
-leZ-false (pos a) (negsuc b) e = omega arith
-leZ-false (negsuc a) (pos b) e = absurd (subst T e tt)
-leZ-false (negsuc a) (negsuc b) e = omega (arith, leb-false b a e)
 
 -- ---- the starts passed
 module _ (s : ℕ → ℤ) (count : ℕ) where

@@ -167,7 +167,7 @@ fn bounds(re: &[i32], im: &[i32]) -> [i64; 160]
     all
 }
 
-// Where the largest of the first n bounds stands.
+// Where the largest of the first n bounds stands. For find's answer any block would do: this one leaves few others to look at.
 fn highest(bounds: &[i64; 160], n: usize) -> usize
     requires { ⌜ (0 < n) × (n ≤ 160) ⌝ }
     ensures { λ r. ⌜ r < n ⌝ }
@@ -186,7 +186,7 @@ fn highest(bounds: &[i64; 160], n: usize) -> usize
     top.at
 }
 
-// The largest size, once the starts from `from` to `end` are looked at, whichever starts c counts.
+// The largest size, once the starts from `from` to `end` are looked at, whichever of them count.
 fn look(best: Largest, re: &[i32], im: &[i32], from: usize, end: usize) -> Largest
     requires { ⌜ (from ≤ end) × (end ≤ length (now re)) × (length (now re) ≡ length (now im)) × (length (now re) ≤ 5120) × Bound 25600000 (now re) × Bound 25600000 (now im) ⌝ }
     ensures { λ r. ⌜ ((c : ℕ → Bool) → PeaksBelow (sizes (now (re .entry)) (now (im .entry))) c (length (now (re .entry))) from best → PeaksBelow (sizes (now (re .entry)) (now (im .entry))) c (length (now (re .entry))) end r) ⌝ }

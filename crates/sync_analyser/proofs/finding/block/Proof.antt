@@ -6,9 +6,9 @@ use borrow.Author.Needs.{needs}
 use mir.Syntax.{w64}
 use mir.Val.{SFits}
 use mir.Facts.{toZ-ofZ}
-use Rattle.complex.proofs.Order.{ltZ-false, leZ-true, le-leZ}
+use Rattle.complex.proofs.Order.{ltZ-false, leZ-true, leZ-false, le-leZ}
 use Rattle.sync_analyser.specs.Held.{sizes}
-use Rattle.sync_analyser.proofs.Blocks.{leZ-false, more-passed}
+use Rattle.sync_analyser.proofs.Blocks.{more-passed}
 use Rattle.sync_analyser.proofs.finding.block.Statement.{statement}
 use Rattle.sync_analyser.proofs.finding.block.Tie as tie
 
