@@ -6,7 +6,7 @@ use Prim.Native.Nat.{ℕ, _+_, _*_, _%_, _<_}
 use native.Mathlib.Decide.{ℕ-discrete}
 use native.Mathlib.Omega.{arith}
 use borrow.Author.Tests.{eq-eqb, ne-eqb, lt-ltb, le-ltb}
-use lib.Dec.{eqb, lit≤}
+use lib.Dec.{eqb, ltb}
 use lib.IntN.{ℤ, pos, negℤ, _+ℤ_, _-ℤ_, _*ℤ_, zero-*ℤ, *ℤ-zero}
 use lib.ListN.{getD}
 use Rattle.complex.specs.declared.Complex.{Complex}
@@ -17,18 +17,13 @@ use Rattle.complex.proofs.Lists.{listed-at}
 use Rattle.complex.proofs.Ring.{by-components}
 use Rattle.complex.proofs.Rotations.{rotate-0, rotate-1, rotate-2, rotate-3}
 use Rattle.codes.specs.Scrambling.{v, scrambling}
-use Rattle.complex.specs.Fits.{Within, Both, Bound}
+use Rattle.complex.specs.Fits.{Within, Bound}
 use Rattle.complex.proofs.Bounds.{bound-listed}
-use Rattle.complex.proofs.Components.{both-⊗}
-use Rattle.complex.proofs.Sizes.{within-mul}
-use Rattle.codes.proofs.Rows.{scrambling-both}
+use Rattle.complex.proofs.Sizes.{within-more, within-mul, within-neg}
+use Rattle.codes.proofs.Rows.{v-within}
 use Rattle.modulation.specs.declared.Block.{Block}
 use Rattle.modulation.specs.Held.{block-of, turn, turn-at, turned}
 use Rattle.modulation.proofs.Blocks.{block-bound}
-
--- the size of 1 + j
-one-plus-j : Both 1 (pos 1 +j pos 1)
-one-plus-j = record { re = record { size = lit≤ tt }; im = record { size = lit≤ tt } }
 
 -- a product of four terms, two of which are 0 on the left and one on the right
 one-term : (x y b : ℤ) → ((pos 0 *ℤ pos 1 -ℤ b *ℤ pos 1) *ℤ y ≡ x *ℤ pos 0 -ℤ y *ℤ b) × ((pos 0 *ℤ pos 1 +ℤ b *ℤ pos 1) *ℤ x ≡ x *ℤ b +ℤ y *ℤ pos 0)
@@ -81,17 +76,6 @@ module _ (p : ℕ) (x y : List ℤ) (i : ℕ) where
       pick (yes e) = rw (eq-eqb _ _ e) (imaginary _ _ (w p i) (even-place p i e))
       pick (no e) = rw (ne-eqb _ _ e) (purely-real _ _ (w p i) (odd-place p i (omega arith)))
 
--- and a turn is at most 2 in size
-pub turn-bound : (p : ℕ) {r : Block} → r ≡ block-of (turn-at p) → Bound 2 (r .re) × Bound 2 (r .im)
-turn-bound p e = block-bound (turn-at p) e (λ i. both-⊗ (scrambling-both p i) one-plus-j)
-
-pub turned-bound : {k : ℕ} {t even odd r : List ℤ} → Bound 2 t → Bound k even → Bound k odd → r ≡ listed 16 (turned t even odd) → Bound (2 * k) r
-turned-bound {k} {even = even} {odd} f g h e = rw e (bound-listed (2 * k) 16 _ (λ i. within-mul (f .at i) (pick (eqb (i % 2) 0) i)))
-  where
-    pick : (b : Bool) (i : ℕ) → Within k (cond b (getD even i (pos 0)) (getD odd i (pos 0)))
-    pick true i = g .at i
-    pick false i = h .at i
-
 -- ---- the turns by signs
 -- (a + b j)(1 + j)
 times-one-plus-j : (a b : ℤ) → (a +j b) ⊗ (pos 1 +j pos 1) ≡ (a -ℤ b) +j (a +ℤ b)
@@ -124,3 +108,18 @@ turn-is p i = go (ℕ-discrete ((i + 1) % 4) 0) (ℕ-discrete ((i + 1) % 4) 1) (
     go (no d) (yes e) f = rw (lt-ltb (i % 4) 2 (omega arith), le-ltb ((i + 3) % 4) 2 (omega arith)) (turned-by (rotate-1 (i + 1) (real (v p (i + 1))) e) ∙ times-one-plus-j (pos 0) (v p (i + 1)) ∙ by-1 (v p (i + 1)))
     go (no d) (no f) (yes e) = rw (lt-ltb (i % 4) 2 (omega arith), lt-ltb ((i + 3) % 4) 2 (omega arith)) (turned-by (rotate-2 (i + 1) (real (v p (i + 1))) e) ∙ times-one-plus-j (negℤ (v p (i + 1))) (pos 0) ∙ by-2 (v p (i + 1)))
     go (no d) (no f) (no g) = rw (le-ltb (i % 4) 2 (omega arith), lt-ltb ((i + 3) % 4) 2 (omega arith)) (turned-by (rotate-3 (i + 1) (real (v p (i + 1))) (omega arith)) ∙ times-one-plus-j (pos 0) (negℤ (v p (i + 1))) ∙ by-3 (v p (i + 1)))
+
+-- so a turn is a sign, or 0
+pub turn-bound : (p : ℕ) {r : Block} → r ≡ block-of (turn-at p) → Bound 1 (r .re) × Bound 1 (r .im)
+turn-bound p e = block-bound (turn-at p) e (λ i. rw (turn-is p i) (record { re = either (ltb (i % 4) 2) i; im = either (ltb ((i + 3) % 4) 2) i }))
+  where
+    either : (b : Bool) (i : ℕ) → Within 1 (cond b (negℤ (v p (i + 1))) (v p (i + 1)))
+    either true i = within-neg (v-within p i)
+    either false i = v-within p i
+
+pub turned-bound : {k : ℕ} {t even odd r : List ℤ} → Bound 1 t → Bound k even → Bound k odd → r ≡ listed 16 (turned t even odd) → Bound k r
+turned-bound {k} {even = even} {odd} f g h e = rw e (bound-listed k 16 _ (λ i. within-more (within-mul (f .at i) (pick (eqb (i % 2) 0) i)) k (omega arith)))
+  where
+    pick : (b : Bool) (i : ℕ) → Within k (cond b (getD even i (pos 0)) (getD odd i (pos 0)))
+    pick true i = g .at i
+    pick false i = h .at i

@@ -216,22 +216,36 @@ pub fn turns(cell: CellParameter) -> Block
     Block { re: re, im: im }
 }
 
+// x times a sign or 0: a choice, four at a time in vector code, where products of 32-bit numbers go one by one.
+fn signed(s: i32, x: i32) -> i32
+    requires { ⌜ Within 1 s × Within 2031585 x ⌝ }
+    ensures { λ r. ⌜ r ≡ s *ℤ x ⌝ }
+{
+    if s < 0 {
+        -x
+    } else if 0 < s {
+        x
+    } else {
+        0
+    }
+}
+
 // Entry i of `even` where i is even, else of `odd`, times t's.
 fn turned_entry(t: &[i32; 16], even: &[i32; 16], odd: &[i32; 16], i: usize) -> i32
-    requires { ⌜ (i < 16) × Bound 2 (now t) × Bound 2031585 (now even) × Bound 2031585 (now odd) ⌝ }
+    requires { ⌜ (i < 16) × Bound 1 (now t) × Bound 2031585 (now even) × Bound 2031585 (now odd) ⌝ }
     ensures { λ r. ⌜ r ≡ turned-of (now (t .entry)) (now (even .entry)) (now (odd .entry)) i ⌝ }
 {
     if i % 2 == 0 {
-        t[i] * even[i]
+        signed(t[i], even[i])
     } else {
-        t[i] * odd[i]
+        signed(t[i], odd[i])
     }
 }
 
 // One component of sixteen values times the scrambling code, from the code's turns for this component and the values' components that make
 // it at even places and at odd ones.
 pub fn turned(t: &[i32; 16], even: &[i32; 16], odd: &[i32; 16]) -> [i32; 16]
-    requires { ⌜ Bound 2 (now t) × Bound 2031585 (now even) × Bound 2031585 (now odd) ⌝ }
+    requires { ⌜ Bound 1 (now t) × Bound 2031585 (now even) × Bound 2031585 (now odd) ⌝ }
     ensures { λ r. ⌜ r ≡ listed 16 (turned-of (now (t .entry)) (now (even .entry)) (now (odd .entry))) ⌝ }
 {
     let mut y = [0i32; 16];

@@ -43,9 +43,9 @@ fn block<'a>(
     tre: &'a [i32; 16],
     tim: &'a [i32; 16],
 ) -> Block
-    requires { ⌜ (from + 16 ≤ 2208) × (levels ≡ levels-of (now gains)) × Bound 2 (now tre) × Bound 2 (now tim) ⌝ }
+    requires { ⌜ (from + 16 ≤ 2208) × (levels ≡ levels-of (now gains)) × Bound 1 (now tre) × Bound 1 (now tim) ⌝ }
     ensures chips { λ r. ⌜ r ≡ block-of (block-chip (now (gains .entry)) (now (pairs .entry)) from (now (tre .entry)) (now (tim .entry))) ⌝ }
-    ensures size { λ r. ⌜ Bound 4063170 (r .re) × Bound 4063170 (r .im) ⌝ }
+    ensures size { λ r. ⌜ Bound 2031585 (r .re) × Bound 2031585 (r .im) ⌝ }
 {
     let sre = data::symbols(pairs, from, true);
     let sim = data::symbols(pairs, from, false);
@@ -77,7 +77,7 @@ fn write_whole<'a>(
     re: &mut [i32],
     im: &mut [i32],
 )
-    requires { ⌜ (from + 16 ≤ 2208) × (levels ≡ levels-of (now gains)) × Bound 2 (now tre) × Bound 2 (now tim) × (length (now re) ≡ 16) × (length (now im) ≡ 16) ⌝ }
+    requires { ⌜ (from + 16 ≤ 2208) × (levels ≡ levels-of (now gains)) × Bound 1 (now tre) × Bound 1 (now tim) × (length (now re) ≡ 16) × (length (now im) ≡ 16) ⌝ }
     ensures real { λ r. ⌜ now (re .exit) ≡ listed 16 (λ i. block-chip (now (gains .entry)) (now (pairs .entry)) from (now (tre .entry)) (now (tim .entry)) i .re) ⌝ }
     ensures imaginary { λ r. ⌜ now (im .exit) ≡ listed 16 (λ i. block-chip (now (gains .entry)) (now (pairs .entry)) from (now (tre .entry)) (now (tim .entry)) i .im) ⌝ }
 {
@@ -90,7 +90,7 @@ fn write_whole<'a>(
 
 // The sums of the entries of two blocks' components.
 fn sums(x: &[i32; 16], y: &[i32; 16]) -> [i32; 16]
-    requires { ⌜ Bound 4063170 (now x) × Bound 1000000 (now y) ⌝ }
+    requires { ⌜ Bound 2031585 (now x) × Bound 1000000 (now y) ⌝ }
     ensures { λ r. ⌜ r ≡ listed 16 (λ i. getD (now (x .entry)) i (pos 0) +ℤ getD (now (y .entry)) i (pos 0)) ⌝ }
 {
     let mut z = [0i32; 16];
@@ -113,7 +113,7 @@ fn write_part<'a>(
     re: &mut [i32],
     im: &mut [i32],
 )
-    requires { ⌜ (from + 16 ≤ 2208) × (levels ≡ levels-of (now gains)) × Bound 2 (now tre) × Bound 2 (now tim) × (i + length (now re) ≤ 16) × (i + length (now im) ≤ 16) × Bound 1000000 (b .re) × Bound 1000000 (b .im) ⌝ }
+    requires { ⌜ (from + 16 ≤ 2208) × (levels ≡ levels-of (now gains)) × Bound 1 (now tre) × Bound 1 (now tim) × (i + length (now re) ≤ 16) × (i + length (now im) ≤ 16) × Bound 1000000 (b .re) × Bound 1000000 (b .im) ⌝ }
     ensures real { λ r. ⌜ now (re .exit) ≡ listed (length (now (re .entry))) (λ j. (block-chip (now (gains .entry)) (now (pairs .entry)) from (now (tre .entry)) (now (tim .entry)) (i + j) ⊕ value (b .re) (b .im) (i + j)) .re) ⌝ }
     ensures imaginary { λ r. ⌜ now (im .exit) ≡ listed (length (now (im .entry))) (λ j. (block-chip (now (gains .entry)) (now (pairs .entry)) from (now (tre .entry)) (now (tim .entry)) (i + j) ⊕ value (b .re) (b .im) (i + j)) .im) ⌝ }
 {
@@ -144,7 +144,7 @@ fn write_block<'a>(
     re: &mut [i32],
     im: &mut [i32],
 )
-    requires { ⌜ (from + 16 ≤ 2208) × (levels ≡ levels-of (now gains)) × Bound 2 (now tre) × Bound 2 (now tim) × (i + length (now re) ≤ 16) × (length (now im) ≡ length (now re)) × (x % 16 ≡ 0) ⌝ }
+    requires { ⌜ (from + 16 ≤ 2208) × (levels ≡ levels-of (now gains)) × Bound 1 (now tre) × Bound 1 (now tim) × (i + length (now re) ≤ 16) × (length (now im) ≡ length (now re)) × (x % 16 ≡ 0) ⌝ }
     ensures real { λ r. ⌜ now (re .exit) ≡ listed (length (now (re .entry))) (λ j. (block-chip (now (gains .entry)) (now (pairs .entry)) from (now (tre .entry)) (now (tim .entry)) (i + j) ⊕ sync-chip (cell .0) (view-sync (cell .0) sync) (x + (i + j))) .re) ⌝ }
     ensures imaginary { λ r. ⌜ now (im .exit) ≡ listed (length (now (im .entry))) (λ j. (block-chip (now (gains .entry)) (now (pairs .entry)) from (now (tre .entry)) (now (tim .entry)) (i + j) ⊕ sync-chip (cell .0) (view-sync (cell .0) sync) (x + (i + j))) .im) ⌝ }
 {
@@ -172,7 +172,7 @@ fn write_field<'a>(
     re: &mut [i32],
     im: &mut [i32],
 )
-    requires { ⌜ (levels ≡ levels-of (now gains)) × Bound 2 (now tre) × Bound 2 (now tim) × (length (now im) ≡ length (now re)) × (before % 16 ≡ 0) × (start % 16 ≡ 0) × (start ≤ 2560) × (0 < length (now re) → before + q + length (now re) ≤ 2208) ⌝ }
+    requires { ⌜ (levels ≡ levels-of (now gains)) × Bound 1 (now tre) × Bound 1 (now tim) × (length (now im) ≡ length (now re)) × (before % 16 ≡ 0) × (start % 16 ≡ 0) × (start ≤ 2560) × (0 < length (now re) → before + q + length (now re) ≤ 2208) ⌝ }
     ensures real { λ r. ⌜ now (re .exit) ≡ listed (length (now (re .entry))) (λ i. held-chip (now (gains .entry)) (now (pairs .entry)) (cell .0) sync (now (tre .entry)) (now (tim .entry)) before start (q + i) .re) ⌝ }
     ensures imaginary { λ r. ⌜ now (im .exit) ≡ listed (length (now (im .entry))) (λ i. held-chip (now (gains .entry)) (now (pairs .entry)) (cell .0) sync (now (tre .entry)) (now (tim .entry)) before start (q + i) .im) ⌝ }
 {
@@ -226,7 +226,7 @@ fn write_half<'a>(
     re: &mut [i32],
     im: &mut [i32],
 )
-    requires { ⌜ (levels ≡ levels-of (now gains)) × Bound 2 (now tre) × Bound 2 (now tim) × (length (now im) ≡ length (now re)) × (count ≤ length (now re)) × (before % 16 ≡ 0) × (start % 16 ≡ 0) × (start ≤ 2560) × (0 < count → before + q + count ≤ 2208) ⌝ }
+    requires { ⌜ (levels ≡ levels-of (now gains)) × Bound 1 (now tre) × Bound 1 (now tim) × (length (now im) ≡ length (now re)) × (count ≤ length (now re)) × (before % 16 ≡ 0) × (start % 16 ≡ 0) × (start ≤ 2560) × (0 < count → before + q + count ≤ 2208) ⌝ }
     ensures real { λ r. ⌜ now (re .exit) ≡ listed (length (now (re .entry))) (λ i. cond (ltb i count) (held-chip (now (gains .entry)) (now (pairs .entry)) (cell .0) sync (now (tre .entry)) (now (tim .entry)) before start (q + i)) 𝟎 .re) ⌝ }
     ensures imaginary { λ r. ⌜ now (im .exit) ≡ listed (length (now (im .entry))) (λ i. cond (ltb i count) (held-chip (now (gains .entry)) (now (pairs .entry)) (cell .0) sync (now (tre .entry)) (now (tim .entry)) before start (q + i)) 𝟎 .im) ⌝ }
 {

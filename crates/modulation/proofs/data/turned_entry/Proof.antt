@@ -1,5 +1,5 @@
 -- `turned_entry` meets its contract: a product of two entries at either parity. Assumes nothing.
-use mathlib.Core.Path.{_≡_}
+use mathlib.Core.Path.{_≡_, ap₂, _∙_}
 use mathlib.Core.List.{List}
 use Prim.Native.Nat.{ℕ}
 use borrow.Author.Needs.{needs}
@@ -8,45 +8,89 @@ use lib.IntN.{ℤ, pos, _*ℤ_}
 use lib.ListN.{getD}
 use mir.Syntax.{w32}
 use mir.Val.{SFits, toZ, ofZ}
-use Rattle.complex.specs.Fits.{Bound}
-use Rattle.complex.proofs.Sizes.{within-mul, fits-within}
-use Rattle.complex.proofs.Machine.{mul-asks, mul-gives}
+use mir.Facts.{toZ-ofZ}
+use Rattle.complex.specs.Fits.{Bound, Within}
+use Rattle.complex.proofs.Sizes.{fits-within}
 use Rattle.modulation.proofs.data.turned_entry.Statement.{statement}
 use Rattle.modulation.proofs.data.turned_entry.Tie as tie
 
--- entry i of t times that of a row x
-module _ {t x : List ℤ} (h : Bound 2 t) (g : Bound 2031585 x) (i : ℕ) where
-  asks : SFits w32 (toZ w32 (ofZ w32 (getD t i (pos 0))) *ℤ toZ w32 (ofZ w32 (getD x i (pos 0))))
-  asks = mul-asks (fits-within (h .at i) tt) (fits-within (g .at i) tt) (fits-within (within-mul (h .at i) (g .at i)) tt)
+-- entries i of t and of a row x, as the locals hold them
+module _ {t x : List ℤ} (h : Bound 1 t) (g : Bound 2031585 x) (i : ℕ) where
+  sign-is : toZ w32 (ofZ w32 (getD t i (pos 0))) ≡ getD t i (pos 0)
+  sign-is = toZ-ofZ (fits-within (h .at i) tt)
 
-  gives : toZ w32 (ofZ w32 (toZ w32 (ofZ w32 (getD t i (pos 0))) *ℤ toZ w32 (ofZ w32 (getD x i (pos 0))))) ≡ getD t i (pos 0) *ℤ getD x i (pos 0)
-  gives = mul-gives (fits-within (h .at i) tt) (fits-within (g .at i) tt) (fits-within (within-mul (h .at i) (g .at i)) tt)
+  value-is : toZ w32 (ofZ w32 (getD x i (pos 0))) ≡ getD x i (pos 0)
+  value-is = toZ-ofZ (fits-within (g .at i) tt)
 
-mul-result-3 : tie.Need-mul-result-3
-mul-result-3 c = let p = c .before .before .before .pre in asks (p .1) (p .2) _
+  asks : Within 1 (toZ w32 (ofZ w32 (getD t i (pos 0)))) × Within 2031585 (toZ w32 (ofZ w32 (getD x i (pos 0))))
+  asks = (rw sign-is (h .at i), rw value-is (g .at i))
 
-mul-result-6 : tie.Need-mul-result-6
-mul-result-6 c = let p = c .before .before .before .pre in asks (p .1) (p .3) _
+  gives : {r : ℤ} → SFits w32 r → r ≡ toZ w32 (ofZ w32 (getD t i (pos 0))) *ℤ toZ w32 (ofZ w32 (getD x i (pos 0))) → toZ w32 (ofZ w32 r) ≡ getD t i (pos 0) *ℤ getD x i (pos 0)
+  gives f e = toZ-ofZ f ∙ e ∙ ap₂ _*ℤ_ sign-is value-is
+
+mul-signed : tie.Need-mul-signed
+mul-signed c = search needs
+
+element-copy-out-signed : tie.Need-element-copy-out-signed
+element-copy-out-signed c = search needs
+
+mul-signed-2 : tie.Need-mul-signed-2
+mul-signed-2 c = search needs
+
+element-copy-out-signed-2 : tie.Need-element-copy-out-signed-2
+element-copy-out-signed-2 c = search needs
+
+signed-requires : tie.Need-signed-requires
+signed-requires c κs =
+    let s = c .before .before .before in
+    let even = asks (s .pre .1) (s .pre .2) (s .args .i) in
+    let odd = asks (s .pre .1) (s .pre .3) (s .args .i) in
+    (search needs, search needs)
+
+mul-signed-3 : tie.Need-mul-signed-3
+mul-signed-3 c = search needs
+
+element-copy-out-signed-3 : tie.Need-element-copy-out-signed-3
+element-copy-out-signed-3 c = search needs
+
+mul-signed-4 : tie.Need-mul-signed-4
+mul-signed-4 c = search needs
+
+element-copy-out-signed-4 : tie.Need-element-copy-out-signed-4
+element-copy-out-signed-4 c = search needs
+
+signed-requires-2 : tie.Need-signed-requires-2
+signed-requires-2 c κs =
+    let s = c .before .before .before in
+    let even = asks (s .pre .1) (s .pre .2) (s .args .i) in
+    let odd = asks (s .pre .1) (s .pre .3) (s .args .i) in
+    (search needs, search needs)
 
 returns : tie.Need-returns
-returns c = let p = c .before .before .before .pre in rw (eq-eqb _ _ (c .before .before .if1 .taken)) (gives (p .1) (p .2) _)
+returns c =
+    let p = c .before .before .before .before .pre in
+    let f : SFits w32 (c .signed .result) = search needs in
+    rw (eq-eqb _ _ (c .before .before .before .if1 .taken)) (gives (p .1) (p .2) _ f (c .signed .ensures))
 
 returns-2 : tie.Need-returns-2
-returns-2 c = let p = c .before .before .before .pre in rw (ne-eqb _ _ (c .before .before .if1 .left)) (gives (p .1) (p .3) _)
+returns-2 c =
+    let p = c .before .before .before .before .pre in
+    let f : SFits w32 (c .signed2 .result) = search needs in
+    rw (ne-eqb _ _ (c .before .before .before .if1 .left)) (gives (p .1) (p .3) _ f (c .signed2 .ensures))
 
 pub turned-entry-spec : {M : Type 1} → statement M
 turned-entry-spec =
     tie.close
     (tie.spec
-    (λ c. search needs)
-    (λ c. search needs)
-    (λ c. search needs)
-    (λ c. search needs)
-    mul-result-3
-    (λ c. search needs)
-    (λ c. search needs)
-    (λ c. search needs)
-    (λ c. search needs)
-    mul-result-6
+    mul-signed
+    element-copy-out-signed
+    mul-signed-2
+    element-copy-out-signed-2
+    signed-requires
+    mul-signed-3
+    element-copy-out-signed-3
+    mul-signed-4
+    element-copy-out-signed-4
+    signed-requires-2
     returns
     returns-2)

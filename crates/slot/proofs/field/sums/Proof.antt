@@ -22,7 +22,7 @@ abbrev μ-loop : tie.MeasureT-loop
 μ-loop x y z₀ i₀ z i = 16 - i
 
 -- the two entries as the locals hold them, and their sum
-module _ {x y : List ℤ} (h : Bound 4063170 x) (g : Bound 1000000 y) (i : ℕ) where
+module _ {x y : List ℤ} (h : Bound 2031585 x) (g : Bound 1000000 y) (i : ℕ) where
   asks : SFits w32 (toZ w32 (ofZ w32 (getD x i (pos 0))) +ℤ toZ w32 (ofZ w32 (getD y i (pos 0))))
   asks = add-asks (fits-within (h .at i) tt) (fits-within (g .at i) tt) (fits-within (within-add (h .at i) (g .at i)) tt)
 
