@@ -170,13 +170,13 @@ fn bounds(re: &[i32], im: &[i32]) -> [i64; 160]
 // Where the largest of the first n bounds stands. For find's answer any block would do: this one leaves few others to look at.
 fn highest(bounds: &[i64; 160], n: usize) -> usize
     requires { ⌜ (0 < n) × (n ≤ 160) ⌝ }
-    ensures { λ r. ⌜ r < n ⌝ }
+    ensures { λ r. ⌜ (r < n) × ((k : ℕ) → k < n → leZ (entries (now (bounds .entry)) k) (entries (now (bounds .entry)) r) ≡ true) ⌝ }
 {
     let mut top = Largest {
         at: 0,
         value: bounds[0],
     };
-    for k in 1..n {
+    for k in 0..n {
         let next = Largest {
             at: k,
             value: bounds[k],
@@ -202,7 +202,7 @@ fn look(best: Largest, re: &[i32], im: &[i32], from: usize, end: usize) -> Large
     found
 }
 
-// A size that the largest one reaches: the largest of the block with the highest bound. Of fewer than 32 starts, the first one's.
+// A size that the largest one reaches: the larger of the first start's and of what the block with the highest bound has.
 fn floor(first: Largest, re: &[i32], im: &[i32], bounds: &[i64; 160], n: usize) -> i64
     requires { ⌜ (n ≤ length (now re) / 32) × (length (now re) ≡ length (now im)) × (length (now re) ≤ 5120) × Bound 25600000 (now re) × Bound 25600000 (now im) × (first .at < length (now re)) × (first .value ≡ sizes (now re) (now im) (first .at)) ⌝ }
     ensures { λ r. ⌜ ((k : ℕ) × (k < length (now (re .entry))) × (r ≡ sizes (now (re .entry)) (now (im .entry)) k)) ⌝ }

@@ -1,13 +1,12 @@
 -- `signed` meets its contract: a number of size 1 at most is -1, 1 or 0. Assumes nothing.
 use mathlib.Core.Path.{_≡_, sym, ap, _∙_}
-use mathlib.Core.Bool.{Bool, true, false}
+use mathlib.Core.Bool.{Bool}
 use native.Mathlib.Omega.{arith}
 use lib.IntN.{ℤ, pos, negsuc, negℤ, _*ℤ_, zero-*ℤ}
 use lib.Signed.{ltZ}
 use mir.Syntax.{w32}
 use mir.Val.{SFits, toZ, ofZ}
 use mir.Facts.{toZ-ofZ}
-use Rattle.complex.specs.Fits.{Within}
 use Rattle.complex.proofs.Integers.{abs-parts, by-parts, negsuc-zero-*ℤ, pos-one-*ℤ}
 use Rattle.complex.proofs.Machine.{neg-asks, neg-gives}
 use Rattle.complex.proofs.Order.{ltZ-true, ltZ-false}

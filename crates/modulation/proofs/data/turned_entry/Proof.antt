@@ -14,57 +14,37 @@ use Rattle.complex.proofs.Sizes.{fits-within}
 use Rattle.modulation.proofs.data.turned_entry.Statement.{statement}
 use Rattle.modulation.proofs.data.turned_entry.Tie as tie
 
--- entries i of t and of a row x, as the locals hold them
+-- an entry, as a local holds it
+abbrev held : List ℤ → ℕ → ℤ
+held x i = toZ w32 (ofZ w32 (getD x i (pos 0)))
+
+-- entries i of t and of a row x
 module _ {t x : List ℤ} (h : Bound 1 t) (g : Bound 2031585 x) (i : ℕ) where
-  sign-is : toZ w32 (ofZ w32 (getD t i (pos 0))) ≡ getD t i (pos 0)
+  sign-is : held t i ≡ getD t i (pos 0)
   sign-is = toZ-ofZ (fits-within (h .at i) tt)
 
-  value-is : toZ w32 (ofZ w32 (getD x i (pos 0))) ≡ getD x i (pos 0)
+  value-is : held x i ≡ getD x i (pos 0)
   value-is = toZ-ofZ (fits-within (g .at i) tt)
 
-  asks : Within 1 (toZ w32 (ofZ w32 (getD t i (pos 0)))) × Within 2031585 (toZ w32 (ofZ w32 (getD x i (pos 0))))
+  asks : Within 1 (held t i) × Within 2031585 (held x i)
   asks = (rw sign-is (h .at i), rw value-is (g .at i))
 
-  gives : {r : ℤ} → SFits w32 r → r ≡ toZ w32 (ofZ w32 (getD t i (pos 0))) *ℤ toZ w32 (ofZ w32 (getD x i (pos 0))) → toZ w32 (ofZ w32 r) ≡ getD t i (pos 0) *ℤ getD x i (pos 0)
+  gives : {r : ℤ} → SFits w32 r → r ≡ held t i *ℤ held x i → toZ w32 (ofZ w32 r) ≡ getD t i (pos 0) *ℤ getD x i (pos 0)
   gives f e = toZ-ofZ f ∙ e ∙ ap₂ _*ℤ_ sign-is value-is
 
-mul-signed : tie.Need-mul-signed
-mul-signed c = search needs
+-- what is asked, of either row
+module _ (s : tie.Start) where
+  abbrev Asked : List ℤ → Type 0
+  Asked x = Within 1 (held (s .args .t .now) (s .args .i)) × Within 2031585 (held x (s .args .i))
 
-element-copy-out-signed : tie.Need-element-copy-out-signed
-element-copy-out-signed c = search needs
-
-mul-signed-2 : tie.Need-mul-signed-2
-mul-signed-2 c = search needs
-
-element-copy-out-signed-2 : tie.Need-element-copy-out-signed-2
-element-copy-out-signed-2 c = search needs
+  both-asks : Asked (s .args .even .now) × Asked (s .args .odd .now)
+  both-asks = (asks (s .pre .1) (s .pre .2) _, asks (s .pre .1) (s .pre .3) _)
 
 signed-requires : tie.Need-signed-requires
-signed-requires c κs =
-    let s = c .before .before .before in
-    let even = asks (s .pre .1) (s .pre .2) (s .args .i) in
-    let odd = asks (s .pre .1) (s .pre .3) (s .args .i) in
-    (search needs, search needs)
-
-mul-signed-3 : tie.Need-mul-signed-3
-mul-signed-3 c = search needs
-
-element-copy-out-signed-3 : tie.Need-element-copy-out-signed-3
-element-copy-out-signed-3 c = search needs
-
-mul-signed-4 : tie.Need-mul-signed-4
-mul-signed-4 c = search needs
-
-element-copy-out-signed-4 : tie.Need-element-copy-out-signed-4
-element-copy-out-signed-4 c = search needs
+signed-requires c κs = let a = both-asks (c .before .before .before) in (search needs, search needs)
 
 signed-requires-2 : tie.Need-signed-requires-2
-signed-requires-2 c κs =
-    let s = c .before .before .before in
-    let even = asks (s .pre .1) (s .pre .2) (s .args .i) in
-    let odd = asks (s .pre .1) (s .pre .3) (s .args .i) in
-    (search needs, search needs)
+signed-requires-2 c κs = let a = both-asks (c .before .before .before) in (search needs, search needs)
 
 returns : tie.Need-returns
 returns c =
@@ -82,15 +62,15 @@ pub turned-entry-spec : {M : Type 1} → statement M
 turned-entry-spec =
     tie.close
     (tie.spec
-    mul-signed
-    element-copy-out-signed
-    mul-signed-2
-    element-copy-out-signed-2
+    (λ c. search needs)
+    (λ c. search needs)
+    (λ c. search needs)
+    (λ c. search needs)
     signed-requires
-    mul-signed-3
-    element-copy-out-signed-3
-    mul-signed-4
-    element-copy-out-signed-4
+    (λ c. search needs)
+    (λ c. search needs)
+    (λ c. search needs)
+    (λ c. search needs)
     signed-requires-2
     returns
     returns-2)

@@ -1,17 +1,19 @@
--- `highest` meets its contract. The loop's invariant: `top` is one of the first n. Assumes nothing.
-use mathlib.Core.Path.{sym, subst}
-use mathlib.Core.Bool.{Bool, true, false, cond}
-use Prim.Native.Nat.{ℕ, _-_, _≤_, _<_}
+-- `highest` meets its contract. The loop's invariant: `top` is the largest of the bounds passed. Assumes nothing.
+use mathlib.Core.Path.{refl, sym, subst}
+use mathlib.Core.Bool.{true}
+use Prim.Native.Nat.{_+_, _-_, _≤_}
 use native.Mathlib.Omega.{arith}
 use borrow.Author.Needs.{needs}
-use lib.Signed.{ltZ}
-use Rattle.analyser.specs.Held.{or-later}
-use Rattle.analyser.specs.declared.largest.Largest.{Largest}
+use mir.Syntax.{w64}
+use mir.Val.{SFits}
+use mir.Facts.{toZ-ofZ}
+use Rattle.sync_analyser.specs.Held.{entries, PeaksBelow}
+use Rattle.sync_analyser.proofs.Blocks.{none-passed, one-passed}
 use Rattle.sync_analyser.proofs.finding.highest.Statement.{statement}
 use Rattle.sync_analyser.proofs.finding.highest.Tie as tie
 
 abbrev Inv-loop : tie.InvT-loop
-Inv-loop bounds n top₀ k₀ top k = (k ≤ n) × (top .at < n)
+Inv-loop bounds n top₀ k₀ top k = (k ≤ n) × PeaksBelow (entries bounds) (λ j. true) n k top
 
 abbrev μ-loop : tie.MeasureT-loop
 μ-loop bounds n top₀ k₀ top k = n - k
@@ -20,7 +22,10 @@ element-copy-out-t8 : tie.Need-element-copy-out-t8 Inv-loop μ-loop
 element-copy-out-t8 c = omega arith
 
 loop-holds : tie.Need-loop-holds Inv-loop μ-loop
-loop-holds c = omega arith
+loop-holds c =
+    let s = c .before in
+    let f : SFits w64 (entries (s .args .bounds .now) 0) = search needs in
+    (omega arith, none-passed _ _ _ _ (s .pre .0) refl (toZ-ofZ f))
 
 mul-t10 : tie.Need-mul-t10 Inv-loop μ-loop
 mul-t10 c = omega arith
@@ -37,22 +42,18 @@ add-k c = omega arith
 loop-less : tie.Need-loop-less Inv-loop μ-loop
 loop-less c = omega arith
 
--- one of two
-either : {n : ℕ} (b d : Largest) → b .at < n → d .at < n → or-later b d .at < n
-either {n} b d h g = go (ltZ (b .value) (d .value))
-  where
-    go : (t : Bool) → cond t d b .at < n
-    go true = g
-    go false = h
-
 loop-again : tie.Need-loop-again Inv-loop μ-loop
 loop-again c =
     let l = c .before .before .before .loop in
     let s = c .before .before .before .before .before in
-    (omega arith, subst (λ (b : Largest). b .at < s .args .n) (sym (c .or-later .ensures)) (either (l .top) _ (l .inv .1) (omega arith)))
+    let b = entries (s .args .bounds .now) in
+    let f : SFits w64 (b (l .k)) = search needs in
+    (omega arith, subst (PeaksBelow b (λ j. true) (s .args .n) (l .k + 1)) (sym (c .or-later .ensures)) (one-passed _ _ _ (l .k) (l .top) (omega arith) (l .inv .1) _ (toZ-ofZ f)))
 
 returns : tie.Need-returns Inv-loop μ-loop
-returns c = omega arith
+returns c =
+    let l = c .before .loop in
+    (l .inv .1 .below, λ k h. l .inv .1 .largest k (omega arith) refl)
 
 pub highest-spec : {M : Type 1} → statement M
 highest-spec =

@@ -1,5 +1,7 @@
 -- `hadamard_sign` meets its contract: rows 16i change sign with the bits that i and the part's number share. Assumes nothing.
+use mathlib.Core.Path.{sym, ap, _∙_}
 use borrow.Author.Tests.{le-ltb, lt-ltb, eq-eqb, ne-eqb}
+use Rattle.codes.specs.Signs.{minus-if}
 use Rattle.sync_codes.specs.SyncCodes.{hadamard-part}
 use Rattle.sync_codes.proofs.Parts.{hadamard-part-is}
 use Rattle.sync_codes.proofs.sync.hadamard_sign.Statement.{statement}
@@ -16,12 +18,12 @@ returns-2 c = simp (lt-ltb _ _ (c .before .if1 .left), le-ltb _ _ (c .if2 .taken
 returns-3 : tie.Need-returns-3
 returns-3 c =
     let s = c .before .before .before in
-    rw (hadamard-part-is (s .args .i) (s .args .m) (c .before .before .if1 .left) (c .before .if2 .left), eq-eqb _ _ (c .if3 .taken))
+    sym (hadamard-part-is (s .args .i) (s .args .m) (c .before .before .if1 .left) (c .before .if2 .left) ∙ ap minus-if (eq-eqb _ _ (c .if3 .taken)))
 
 returns-4 : tie.Need-returns-4
 returns-4 c =
     let s = c .before .before .before in
-    rw (hadamard-part-is (s .args .i) (s .args .m) (c .before .before .if1 .left) (c .before .if2 .left), ne-eqb _ _ (c .if3 .left))
+    sym (hadamard-part-is (s .args .i) (s .args .m) (c .before .before .if1 .left) (c .before .if2 .left) ∙ ap minus-if (ne-eqb _ _ (c .if3 .left)))
 
 pub hadamard-sign-spec : {M : Type 1} → statement M
 hadamard-sign-spec = tie.close (tie.spec returns returns-2 returns-3 returns-4)
