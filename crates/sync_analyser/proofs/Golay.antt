@@ -21,10 +21,14 @@ use Rattle.complex.proofs.Sums.{Σℤ-cong}
 use Rattle.codes.specs.Held.{packed, sign-bit}
 use Rattle.sync_codes.specs.SyncCodes.{a, a-signs}
 use Rattle.sync_analyser.specs.Held.{entries, four-of, primary-sum, signed-sum}
+use Rattle.sync_analyser.proofs.Products.{held}
 
 -- what a local holds that was read from a list
 pub read-is : {z : ℤ} → Within 6400000 z → toZ w32 (ofZ w32 z) ≡ z
 read-is h = toZ-ofZ (fits-within h tt)
+
+pub read-within : {z : ℤ} → Within 6400000 z → Within 6400000 (toZ w32 (ofZ w32 z))
+read-within h = held (read-is h) h
 
 -- an entry past those written
 past-written : (f : ℕ → ℤ) (d : List ℤ) (n k : ℕ) → n ≤ k → entries (written (listed n f) d) k ≡ entries d k

@@ -14,7 +14,7 @@ use Rattle.complex.specs.Fits.{Within}
 use Rattle.complex.proofs.Lists.{one-more-written}
 use Rattle.complex.proofs.Sizes.{within-more}
 use Rattle.sync_analyser.specs.Held.{entries, four-of}
-use Rattle.sync_analyser.proofs.Golay.{kept, read-is, taken-within}
+use Rattle.sync_analyser.proofs.Golay.{kept, read-is, read-within, taken-within}
 use Rattle.sync_analyser.proofs.Products.{held}
 use Rattle.sync_analyser.proofs.finding.pairs.Statement.{statement}
 use Rattle.sync_analyser.proofs.finding.pairs.Tie as tie
@@ -77,7 +77,7 @@ module _ (c : tie.In-loop Inv-loop μ-loop) where
   entry-is k l g = read-is (small k l g) ∙ entry-kept k l
 
   within : (k : ℕ) → c .before .loop .i ≤ k → k < start .args .count + 48 → Within 6400000 (toZ w32 (ofZ w32 (entries (c .before .loop .y) k)))
-  within k l g = held (read-is (small k l g)) (small k l g)
+  within k l g = read-within (small k l g)
 
 four-requires : tie.Need-four-requires Inv-loop μ-loop
 four-requires c κs =

@@ -14,8 +14,7 @@ use Rattle.complex.specs.Fits.{Within}
 use Rattle.complex.proofs.Lists.{one-more-written}
 use Rattle.complex.proofs.Sizes.{within-more}
 use Rattle.sync_analyser.specs.Held.{entries, four-of}
-use Rattle.sync_analyser.proofs.Golay.{read-is}
-use Rattle.sync_analyser.proofs.Products.{held}
+use Rattle.sync_analyser.proofs.Golay.{read-is, read-within}
 use Rattle.sync_analyser.proofs.finding.sums.Statement.{statement}
 use Rattle.sync_analyser.proofs.finding.sums.Tie as tie
 
@@ -68,7 +67,7 @@ entry-within c k = within-more (c .pre .5 .at k) 6400000 (lit≤ tt)
 four-requires : tie.Need-four-requires Inv-loop μ-loop
 four-requires c κs =
     let h = entry-within (c .before .before .before .before .before .before) in
-    (held (read-is (h _)) (h _), held (read-is (h _)) (h _), held (read-is (h _)) (h _), held (read-is (h _)) (h _))
+    (read-within (h _), read-within (h _), read-within (h _), read-within (h _))
 
 mul-s : tie.Need-mul-s Inv-loop μ-loop
 mul-s c = omega arith

@@ -12,7 +12,7 @@ use Rattle.complex.specs.Buffers.{listed, written}
 use Rattle.complex.specs.Fits.{Within}
 use Rattle.complex.proofs.Lists.{one-more-written}
 use Rattle.sync_analyser.specs.Held.{entries}
-use Rattle.sync_analyser.proofs.Golay.{kept, read-is, taken-within, whole-of}
+use Rattle.sync_analyser.proofs.Golay.{kept, read-is, read-within, taken-within, whole-of}
 use Rattle.sync_analyser.proofs.Products.{held}
 use Rattle.sync_analyser.proofs.finding.whole.Statement.{statement}
 use Rattle.sync_analyser.proofs.finding.whole.Tie as tie
@@ -78,11 +78,11 @@ four-requires : tie.Need-four-requires Inv-loop μ-loop
 four-requires c κs =
     let n = c .before .before .before .before in
     let i = n .before .loop .i in
-    let p = y-small n i (omega arith) (omega arith) in
-    let q = y-small n (i + 128) (omega arith) (omega arith) in
-    let r = t-small n (i + 192) (omega arith) in
-    let s = t-small n (i + 64) (omega arith) in
-    (held (read-is p) p, held (read-is q) q, held (read-is r) r, held (read-is s) s)
+    let p = read-within (y-small n i (omega arith) (omega arith)) in
+    let q = read-within (y-small n (i + 128) (omega arith) (omega arith)) in
+    let r = read-within (t-small n (i + 192) (omega arith)) in
+    let s = read-within (t-small n (i + 64) (omega arith)) in
+    (search needs, search needs, search needs, search needs)
 
 mul-s : tie.Need-mul-s Inv-loop μ-loop
 mul-s c = omega arith
