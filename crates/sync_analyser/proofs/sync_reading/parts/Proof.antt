@@ -90,7 +90,12 @@ plus-requires : tie.Need-plus-requires Inv-loop μ-loop
 plus-requires c κs = fits-within (within-add (first-within c) (last-within c)) tt
 
 less-requires : tie.Need-less-requires Inv-loop μ-loop
-less-requires c κs = fits-within (within-sub (first-within (c .before)) (last-within (c .before))) tt
+less-requires c κs =
+    let f = first-within (c .before) in
+    let l = last-within (c .before) in
+    let one-way = fits-within (within-sub f l) {w = w32} tt in
+    let other-way = fits-within (within-sub l f) {w = w32} tt in
+    search needs
 
 mul-y : tie.Need-mul-y Inv-loop μ-loop
 mul-y c = omega arith

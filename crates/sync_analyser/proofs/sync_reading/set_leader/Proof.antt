@@ -51,6 +51,9 @@ sign-leader-requires-5 c κs = let s = c .before .before .before .before in (bel
 sign-leader-requires-6 : tie.Need-sign-leader-requires-6
 sign-leader-requires-6 c κs = let s = c .before .before .before .before .before in (below s .2, start s .pre .3)
 
+abbrev IsLed : Leader → Type 0
+IsLed = Led 5300000000000000 2
+
 -- the leaders of the signs
 module _ (c : tie.After-sign-leader6) where
   abbrev base : tie.After-code-set
@@ -62,10 +65,10 @@ module _ (c : tie.After-sign-leader6) where
   abbrev imaginary-part : ℕ → Leader
   imaginary-part i = leader-of-signs (getD (start base .args .im .now) i (pos 0))
 
-  real-led : (i : ℕ) → Led 5300000000000000 2 (real-part i)
+  real-led : (i : ℕ) → IsLed (real-part i)
   real-led i = signs-led (start base .pre .2 .at i)
 
-  imaginary-led : (i : ℕ) → Led 5300000000000000 2 (imaginary-part i)
+  imaginary-led : (i : ℕ) → IsLed (imaginary-part i)
   imaginary-led i = signs-led (start base .pre .3 .at i)
 
   a-is : c .before .before .before .before .before .sign-leader .result ≡ real-part (set base .a)
@@ -87,20 +90,25 @@ module _ (c : tie.After-sign-leader6) where
   jd-is = c .sign-leader6 .ensures ∙ ap (λ (s : CodeSet). imaginary-part (s .d)) (base .code-set .ensures)
 
   -- a leader that is one of them
-  led : {l m : Leader} → l ≡ m → Led 5300000000000000 2 m → Led 5300000000000000 2 l
-  led e h = subst (Led 5300000000000000 2) (sym e) h
+  led : {l m : Leader} → l ≡ m → IsLed m → IsLed l
+  led e h = subst IsLed (sym e) h
+
+  -- all six are
+  all-led : IsLed (c .before .before .before .before .before .sign-leader .result) × IsLed (c .before .before .before .before .sign-leader2 .result) × IsLed (c .before .before .before .sign-leader3 .result)
+      × IsLed (c .before .before .sign-leader4 .result) × IsLed (c .before .sign-leader5 .result) × IsLed (c .sign-leader6 .result)
+  all-led = (led a-is (real-led _), led b-is (real-led _), led d-is (real-led _), led ja-is (imaginary-led _), led jb-is (imaginary-led _), led jd-is (imaginary-led _))
 
 row-leader-requires : tie.Need-row-leader-requires
-row-leader-requires c κs = (led c (a-is c) (real-led c _), led c (b-is c) (real-led c _), led c (d-is c) (real-led c _))
+row-leader-requires c κs = let h = all-led c in (search needs, search needs, search needs)
 
 row-leader-requires-2 : tie.Need-row-leader-requires-2
-row-leader-requires-2 c κs = let s = c .before in (led s (ja-is s) (imaginary-led s _), led s (jb-is s) (imaginary-led s _), led s (d-is s) (real-led s _))
+row-leader-requires-2 c κs = let h = all-led (c .before) in (search needs, search needs, search needs)
 
 row-leader-requires-3 : tie.Need-row-leader-requires-3
-row-leader-requires-3 c κs = let s = c .before .before .before in (led s (ja-is s) (imaginary-led s _), led s (jd-is s) (imaginary-led s _), led s (b-is s) (real-led s _))
+row-leader-requires-3 c κs = let h = all-led (c .before .before .before) in (search needs, search needs, search needs)
 
 row-leader-requires-4 : tie.Need-row-leader-requires-4
-row-leader-requires-4 c κs = let s = c .before .before .before .before .before in (led s (jb-is s) (imaginary-led s _), led s (jd-is s) (imaginary-led s _), led s (a-is s) (real-led s _))
+row-leader-requires-4 c κs = let h = all-led (c .before .before .before .before .before) in (search needs, search needs, search needs)
 
 -- ---- the leaders of the rows
 module _ (c : tie.After-sign-leader6) where
@@ -114,7 +122,7 @@ module _ (c : tie.After-sign-leader6) where
   row-3 = leader-of-row (start (base c) .args .case) (imaginary-part c (set (base c) .b)) (imaginary-part c (set (base c) .d)) (real-part c (set (base c) .a))
 
   in-row : {l : Leader} (first second marker : Leader) → l ≡ leader-of-row (start (base c) .args .case) first second marker
-      → Led 5300000000000000 2 first → Led 5300000000000000 2 second → Led 5300000000000000 2 marker → l .at < 32
+      → IsLed first → IsLed second → IsLed marker → l .at < 32
   in-row first second marker e f s m =
       let b = row-below (start (base c) .args .case) (start (base c) .pre .0) f s m in
       subst (λ (l : Leader). l .at < 32) (sym e) (omega (arith, b))
