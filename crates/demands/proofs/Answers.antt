@@ -1,9 +1,9 @@
--- The bench gives at every call of every list what the reference model gives. Assumes nothing.
+-- One call: what a function of the bench gives and leaves is what the reference model gives and leaves. Assumes nothing.
 use lib.IntN.{ℤ}
 use mathlib.Core.Path.{_≡_, refl, sym, ap, ap₂, subst, _∙_}
 use mathlib.Core.Logic.{_≢_}
 use mathlib.Core.Bool.{Bool, true, false, not, cond, false≢true}
-use mathlib.Core.List.{List, [], _∷_, map}
+use mathlib.Core.List.{List, [], _∷_}
 use mathlib.Core.Option.{Option, none, some, Option·some-injective, Option·none-ne-some}
 use Prim.Native.Nat.{ℕ, suc, _+_, _-_, _≤_, min}
 use native.Mathlib.Omega.{arith}
@@ -13,7 +13,7 @@ use lib.ListN.{length, set, take, length-set}
 use Rattle.complex.specs.declared.Complex.{Complex}
 use Rattle.complex.specs.Buffers.{Values, written, in-buffers}
 use Rattle.complex.proofs.Lists.{take-written}
-use Rattle.codes.specs.Refusals.{Answer, refused, gives, Refusal, _if_, _otherwise_}
+use Rattle.codes.specs.Refusals.{Answer, refused, gives, Refusal, _otherwise_}
 use Rattle.codes.proofs.Refused.{Passed}
 use Rattle.slot.specs.declared.Settings.{Settings}
 use Rattle.modulation.specs.Nodes.{node}
@@ -23,12 +23,14 @@ use Rattle.slot.specs.Tables.{view}
 use Rattle.bench.specs.declared.Bench.{Bench}
 use Rattle.bench.specs.declared.Channel.{Channel as Record}
 use Rattle.bench.specs.Changes as Tables
-use Rattle.bench.specs.BenchCalls.{under-way, fresh, set-cell-refusals, open-refusals, bad-gain, refused-at, opened-in-turn, close-refusals, set-gain-refusals, load-bits-refusals, set-sync-refusals, Draw, draw-refusals, moved-on}
+use Rattle.bench.specs.BenchCalls.{under-way, fresh, set-cell-refusals, open-refusals, bad-gain, refused-at, opened-in-turn, close-refusals, set-gain-refusals, load-bits-refusals, set-sync-refusals, start-refusals, Draw, draw-refusals, moved-on}
 use Rattle.bench.proofs.Accepted.{good-code, gain-range}
 use Rattle.bench.proofs.Loading.{is-bit}
-use Rattle.demands.specs.Calls.{Call, set-cell, open-code, load-plan, close, set-gain, load-bits, set-sync, clear-sync, start, draw, Told, drew, Step, told-by, left-after}
+use Rattle.demands.specs.Calls.{Call, set-cell, open-code, load-plan, close, set-gain, load-bits, set-sync, clear-sync, start, draw, drew, Step}
 use Rattle.demands.specs.Reference.{Reference, fresh-reference, opened, closed, gain-set, bits-loaded, with-sync, records-opened, by-entry, by-plan, started, copy-chip, drawn, reference-step, fed}
-use Rattle.demands.specs.BenchSteps.{bench-step, called, planned, drawn as bench-drawn}
+use Rattle.demands.specs.Runs.{Ran}
+use Rattle.demands.proofs.BenchSteps.{bench-step, called, planned, drawn as bench-drawn}
+use Rattle.demands.proofs.Contracts.{ran-step}
 use Rattle.demands.proofs.TableLaws.{view-cell-set, view-nothing-open, view-sync-set, view-sync-cleared, view-opened, view-closed, view-gain-set, view-bits-loaded}
 use Rattle.demands.proofs.Otherwise.{alike}
 use Rattle.demands.specs.Valid.{Valid, ValidReference}
@@ -58,7 +60,7 @@ record ValidTables (s : Settings) : Type 0 where
   pub valid : Valid (view s)
 
 -- a step of the reference model is the bench's, and leaves a valid bench
-record Steps (x : Step Reference) (y : Step Bench) : Type 0 where
+pub record Steps (x : Step Reference) (y : Step Bench) : Type 0 where
   pub same : x ≡ seen y
   pub valid : ValidBench (y .next)
 
@@ -193,7 +195,7 @@ module _ (b : Bench) (v : ValidBench b) where
   start-steps =
       rw (air (under-way b) (view (b .sending)))
       (alike (λ (x : Answer (Unit {0})) (y : Answer Bench). Steps (started (reference-of b) x) (called b y)) (λ n. record { same = refl; valid = v })
-      (10 if under-way b ∷ []) tt (record { settings = b .settings; running = 1; sending = b .settings; position = 0 })
+      (start-refusals (under-way b)) tt (record { settings = b .settings; running = 1; sending = b .settings; position = 0 })
       (λ p. record { same = refl; valid = started-valid }))
 
   -- An accepted draw gets m chips of the copy's slot, "the tally grows by m, and at 2,560 the copy goes".
@@ -229,7 +231,7 @@ module _ (b : Bench) (v : ValidBench b) where
       let l : b .position + m ≤ slot-length = omega (arith, v .model .at-most) in
       rw (air (under-way b) (view (b .sending)))
       (alike (λ (x : Answer (Unit {0})) (y : Answer Draw). Steps (drawn (reference-of b) m x) (bench-drawn b re im y)) (λ n. record { same = refl; valid = v })
-      (draw-refusals b (length re) (length im)) tt (draw-of b m)
+      (draw-refusals (under-way b) (length re) (length im)) tt (draw-of b m)
       (λ p. record { same = chips-drawn re im m l (not-false _ (p .0)); valid = moved-valid m l }))
 
   step : (c : Call (List ℤ)) → Steps (reference-step (reference-of b) (fed c)) (bench-step b c)
@@ -250,50 +252,14 @@ module _ (b : Bench) (v : ValidBench b) where
   step start = start-steps
   step (draw re im) = draw-steps re im
 
-  pub agrees : (c : Call (List ℤ)) → reference-step (reference-of b) (fed c) ≡ seen (bench-step b c)
-  agrees c = step c .same
+  -- what a function gave and left
+  pub ran-steps : {c : Call (List ℤ)} {y : Step Bench} → Ran b c y → Steps (reference-step (reference-of b) (fed c)) y
+  ran-steps {c} h = subst (Steps (reference-step (reference-of b) (fed c))) (sym (ran-step h)) (step c)
 
-  pub bench-step-valid : (c : Call (List ℤ)) → ValidBench (bench-step b c .next)
-  bench-step-valid c = step c .valid
-
--- ---- a list of calls
-told-from : (b : Bench) → ValidBench b → (calls : List (Call (List ℤ))) → told-by bench-step b calls ≡ told-by reference-step (reference-of b) (map fed calls)
-unfolding told-by
-told-from b v [] = refl
-told-from b v (c ∷ cs) = rw (agrees b v c) (ap (λ (l : List Told). bench-step b c .told ∷ l) (told-from (bench-step b c .next) (bench-step-valid b v c) cs))
-
-left-from : (b : Bench) → ValidBench b → (calls : List (Call (List ℤ)))
-    → left-after reference-step (reference-of b) (map fed calls) ≡ reference-of (left-after bench-step b calls)
-unfolding left-after
-left-from b v [] = refl
-left-from b v (c ∷ cs) =
-    ap (λ (x : Step Reference). left-after reference-step (x .next) (map fed cs)) (agrees b v c) ∙ left-from (bench-step b c .next) (bench-step-valid b v c) cs
-
-valid-from : (b : Bench) → ValidBench b → (calls : List (Call (List ℤ))) → ValidBench (left-after bench-step b calls)
-unfolding left-after
-valid-from b v [] = v
-valid-from b v (c ∷ cs) = valid-from (bench-step b c .next) (bench-step-valid b v c) cs
-
+-- ---- the fresh bench
 -- "at first the fresh settings, no copy, tally 0"
 pub fresh-same : reference-of fresh ≡ fresh-reference
 fresh-same = ap (λ (s : Setup). record { settings = s; sending = none; sent = 0 }) (view-cell-set (record { 0 = 0 }) 1 _)
 
 pub fresh-bench-valid : ValidBench fresh
 fresh-bench-valid = record { sized = record { settings = refl; sending = refl }; model = subst ValidReference (sym fresh-same) fresh-reference-valid }
-
--- "At every call of the list the bench gives the ledger's number, place and count, or none where the ledger has none, and an accepted draw leaves
--- the ledger's m chips in the first m entries of its two buffers."
-pub answers : (calls : List (Call (List ℤ))) → told-by bench-step fresh calls ≡ told-by reference-step fresh-reference (map fed calls)
-answers calls = told-from fresh fresh-bench-valid calls ∙ ap (λ (r : Reference). told-by reference-step r (map fed calls)) fresh-same
-
--- the bench that a list leaves stands for the reference model that it leaves
-pub reached : (calls : List (Call (List ℤ)))
-    → left-after reference-step fresh-reference (map fed calls) ≡ reference-of (left-after bench-step fresh calls)
-reached calls = ap (λ (r : Reference). left-after reference-step r (map fed calls)) (sym fresh-same) ∙ left-from fresh fresh-bench-valid calls
-
--- both are valid
-pub bench-valid : (calls : List (Call (List ℤ))) → ValidBench (left-after bench-step fresh calls)
-bench-valid = valid-from fresh fresh-bench-valid
-
-pub reference-valid : (calls : List (Call (List ℤ))) → ValidReference (left-after reference-step fresh-reference (map fed calls))
-reference-valid calls = subst ValidReference (sym (reached calls)) (bench-valid calls .model)

@@ -1,12 +1,10 @@
--- Demand 2 of a slot's own chips: a burst drawn from a slot with nothing open is read back. Assumes nothing.
-use mathlib.Core.Path.{_≡_, refl, ap, ap₂, _∙_}
+-- A burst drawn from a slot with nothing open is read back. Assumes nothing.
+use mathlib.Core.Path.{_≡_, refl, ap, _∙_}
 use mathlib.Core.Bool.{Bool, true, false, cond}
-use mathlib.Core.List.{List, List·Memᴰ}
 use mathlib.Core.Option.{none, some}
 use Prim.Native.Nat.{ℕ, _+_, _-_, _<_}
 use native.Mathlib.Omega.{arith}
 use lib.Dec.{ltb}
-use lib.IntN.{ℤ}
 use Rattle.complex.specs.declared.Complex.{Complex}
 use Rattle.complex.specs.Arithmetic.{𝟎, _⊕_}
 use Rattle.complex.specs.Buffers.{Values}
@@ -19,12 +17,11 @@ use Rattle.slot.specs.Setup.{SyncSetup, Setup}
 use Rattle.slot.specs.Slot.{over-codes, channel-chip, data-chip, sync-chip, chip, burst-type}
 use Rattle.slot.proofs.BurstPlace.{burst-whole, without-sync}
 use Rattle.sync_analyser.specs.SyncReading.{of-group, read-sync-call}
-use Rattle.demands.specs.Calls.{Call}
-use Rattle.demands.specs.Slots.{Slot, slots}
-use Rattle.demands.specs.Fields.{part, Drawn}
+use Rattle.demands.specs.Slots.{Slot}
+use Rattle.demands.specs.Fields.{Drawn, chips-from}
 use Rattle.demands.proofs.BurstReadBack.{burst-read-back}
 use Rattle.demands.specs.Valid.{HeldSync, Valid}
-use Rattle.demands.proofs.History.{in-order, slot-valid}
+use Rattle.demands.proofs.History.{Good}
 use Rattle.demands.proofs.FieldReadings.{in-buffers-cong, drawn-part}
 
 -- with nothing open and no sync a slot is silent
@@ -48,15 +45,12 @@ silent s h x =
     both : (before q : ℕ) → data-chip (without-sync s) before q ⊕ 𝟎 ≡ 𝟎
     both before q = ⊕-𝟎 _ ∙ data-silent (without-sync s) h before q
 
--- "a sync burst standing alone, read with its own case, comes back as the group, frame and slot it was made for": of the 256 chips that draws left
-pub burst-drawn : (calls : List (Call (List ℤ))) (slot : Slot) → List·Memᴰ slot (slots calls) → (y : SyncSetup)
+pub slot-burst : (slot : Slot) → Good slot → (y : SyncSetup)
     → (let s = slot .settings in let g = code-group (s .cell) in let x = burst-start g in
     s .sync ≡ some y → ((Q k : ℕ) → s .channel Q k ≡ none) → Drawn slot x 256
-    → read-sync-call (y .case) (part x 256 (slot .chips .re)) (part x 256 (slot .chips .im)) ≡ gives (of-group g (y .frame) (y .half)))
-burst-drawn calls slot i y e nothing drawn =
-    let p = drawn-part slot v (in-order calls slot i) x 256 drawn in
-    ap₂ (read-sync-call (y .case)) (p .0) (p .1)
-    ∙ ap (λ (b : Values). read-sync-call (y .case) (b .re) (b .im)) (in-buffers-cong 256 _ _ chip-is)
+    → read-sync-call (y .case) (chips-from slot x 256 .re) (chips-from slot x 256 .im) ≡ gives (of-group g (y .frame) (y .half)))
+slot-burst slot good y e nothing drawn =
+    ap (λ (b : Values). read-sync-call (y .case) (b .re) (b .im)) (drawn-part slot v (good .in-order) x 256 drawn ∙ in-buffers-cong 256 _ _ chip-is)
     ∙ burst-read-back (y .case) g (y .frame) (y .half) (y .gP) (y .gS) (h .case) (omega (arith, v .cell)) (h .frame-and-half) (h .P-above-0) (h .P-at-most) (h .S-above-0) (h .S-at-most)
   where
     s : Setup
@@ -69,7 +63,7 @@ burst-drawn calls slot i y e nothing drawn =
     x = burst-start g
 
     v : Valid s
-    v = slot-valid calls slot i
+    v = good .valid
 
     h : HeldSync (s .type) y
     h = v .sync y e

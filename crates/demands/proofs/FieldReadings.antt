@@ -1,4 +1,4 @@
--- What read gives for a data field of a slot: demand 3's readings. Assumes nothing.
+-- What read gives for a data field of a slot whose chips were drawn in order. Assumes nothing.
 use mathlib.Core.Path.{_≡_, refl, ap, ap₂, _∙_, sym, subst}
 use mathlib.Core.Bool.{true, false, _&&_, not}
 use mathlib.Core.List.{List}
@@ -18,7 +18,7 @@ use Rattle.complex.proofs.Lists.{length-listed, listed-cong, value-in-buffers}
 use Rattle.complex.proofs.Ring.{𝟎-⊗}
 use Rattle.complex.proofs.Sizes.{within-more}
 use Rattle.complex.proofs.Sums.{Σ-cong, Σ-𝟎}
-use Rattle.codes.specs.Refusals.{gives}
+use Rattle.codes.specs.Refusals.{Answer, gives}
 use Rattle.codes.specs.Scrambling.{scrambling, code-group}
 use Rattle.codes.specs.Tree.{is-code, element}
 use Rattle.sync_codes.specs.Burst.{burst-start}
@@ -28,7 +28,7 @@ use Rattle.analyser.proofs.Ranges.{none-outside}
 use Rattle.slot.specs.Setup.{SyncSetup, Setup, is-some}
 use Rattle.slot.specs.Slot.{data-chip, sync-chip, chip}
 use Rattle.demands.specs.Slots.{Slot, InOrder}
-use Rattle.demands.specs.Fields.{Field, field-length, field-start, field-before, part, Drawn, DrawnWhole, field-read, reading-count, Suffice, burst-at, no-burst}
+use Rattle.demands.specs.Fields.{Field, field-length, field-start, field-before, part, Drawn, DrawnWhole, chips-from, drawn-field, reading-count, Suffice, burst-at, no-burst}
 use Rattle.demands.proofs.Readings.{reading-additive}
 use Rattle.demands.proofs.Entries.{code-of}
 use Rattle.demands.specs.Valid.{Valid}
@@ -91,6 +91,10 @@ no-sync-chip s x e = go (s .sync) e
 pub quiet-chip : (s : Setup) (x n : ℕ) → no-burst s x n ≡ true → (i : ℕ) → i < n → sync-chip (s .cell) (s .sync) (x + i) ≡ 𝟎
 quiet-chip s x n e i l = no-sync-chip s (x + i) (not-true _ (T-true _ (each-at n (λ i. not (burst-at s (x + i))) (subst T (sym e) tt) i l)))
 
+-- what read gives with a start's cell parameter
+abbrev pub read-of : Setup → ℕ → ℕ → Values → Values → Answer Values
+read-of s Q k field out = read-call (s .cell) Q k (field .re) (field .im) (length (out .re)) (length (out .im))
+
 -- what the data of a field reads, and what the burst reads
 abbrev pub of-data : Setup → Field → ℕ → ℕ → ℕ → Complex
 of-data s f Q k = reading (s .cell) Q k (data-chip s (field-before s f))
@@ -103,14 +107,14 @@ module _ (slot : Slot) (v : Valid (slot .settings)) (o : InOrder slot) where
   s = slot .settings
 
   -- the drawn chips from chip x to chip x + n - 1
-  pub drawn-part : (x n : ℕ) → Drawn slot x n
-      → (part x n (slot .chips .re) ≡ in-buffers n (λ i. chip s (x + i)) .re) × (part x n (slot .chips .im) ≡ in-buffers n (λ i. chip s (x + i)) .im)
+  pub drawn-part : (x n : ℕ) → Drawn slot x n → chips-from slot x n ≡ in-buffers n (λ i. chip s (x + i))
   drawn-part x n d =
       let e = o .chips in
-      let l : length (slot .chips .re) ≡ o .count = ap (λ (w : Values). length (w .re)) e ∙ length-listed _ (o .count) in (
-        ap (λ (w : Values). part x n (w .re)) e ∙ part-listed (pos 0) (λ i. chip s i .re) x n (o .count) (omega (arith, l)),
-        ap (λ (w : Values). part x n (w .im)) e ∙ part-listed (pos 0) (λ i. chip s i .im) x n (o .count) (omega (arith, l)),
-      )
+      let l : length (slot .chips .re) ≡ o .count = ap (λ (w : Values). length (w .re)) e ∙ length-listed _ (o .count) in
+      ap (λ (w : Values). record { re = part x n (w .re); im = part x n (w .im) }) e
+      ∙ ap₂ (λ (re im : List ℤ). record { re = re; im = im })
+      (part-listed (pos 0) (λ i. chip s i .re) x n (o .count) (omega (arith, l)))
+      (part-listed (pos 0) (λ i. chip s i .im) x n (o .count) (omega (arith, l)))
 
   pub drawn-chip : (x : ℕ) → x < length (slot .chips .re) → value (slot .chips .re) (slot .chips .im) x ≡ chip s x
   drawn-chip x l =
@@ -127,12 +131,11 @@ module _ (slot : Slot) (v : Valid (slot .settings)) (o : InOrder slot) where
         field-cong (s .cell) Q k (field-length s f) _ (λ q. data-chip s (field-before s f) q ⊕ field-sync s f q) (chip-in-field s f) n l
         ∙ reading-additive (s .cell) Q k (data-chip s (field-before s f)) (field-sync s f) n
 
-    module _ (m m′ : ℕ) (w : Suffice s f Q m m′) where
-      -- read accepts every field that was drawn whole, and burst and data add up
-      pub reads : DrawnWhole slot f → field-read slot f Q k m m′ ≡ gives (in-buffers count (λ n. of-data s f Q k n ⊕ of-burst s f Q k n))
-      reads d =
-          let p = drawn-part (field-start s f) (field-length s f) d in
-          ap₂ (λ (re im : List ℤ). read-call (s .cell) Q k re im m m′) (p .0) (p .1)
-          ∙ read-gives (s .cell) Q k (field-length s f) (λ q. chip s (field-start s f + q)) (v .cell) c (readable s (v .type) f)
-          (λ q l. chip-within s v _) m m′ (w .re) (w .im)
-          ∙ ap gives (in-buffers-cong count _ (λ n. of-data s f Q k n ⊕ of-burst s f Q k n) parts)
+    -- read accepts every field that was drawn whole, and burst and data add up
+    pub reads : DrawnWhole slot f → (out : Values) → Suffice s f Q out
+        → read-of s Q k (drawn-field slot f) out ≡ gives (in-buffers count (λ n. of-data s f Q k n ⊕ of-burst s f Q k n))
+    reads d out w =
+        ap (λ (field : Values). read-of s Q k field out) (drawn-part (field-start s f) (field-length s f) d)
+        ∙ read-gives (s .cell) Q k (field-length s f) (λ q. chip s (field-start s f + q)) (v .cell) c (readable s (v .type) f)
+        (λ q l. chip-within s v _) (length (out .re)) (length (out .im)) (w .re) (w .im)
+        ∙ ap gives (in-buffers-cong count _ (λ n. of-data s f Q k n ⊕ of-burst s f Q k n) parts)

@@ -1,7 +1,7 @@
--- Demand 2: "hardening the readings of a channel in a slot without sync yields the bits it held when that slot started". Assumes nothing.
+-- Hardening a channel's own readings gives its bits. Assumes nothing.
 use mathlib.Core.Path.{_≡_, refl, sym, ap, _∙_}
 use mathlib.Core.Bool.{true, cond}
-use mathlib.Core.List.{List, [], _∷_, _++_, List·Memᴰ}
+use mathlib.Core.List.{List, [], _∷_, _++_}
 use mathlib.Core.Option.{none, some}
 use Prim.Native.Nat.{ℕ, _+_, _*_, _/_, _%_, _≤_, _<_}
 use native.Mathlib.Nat.{zero-div}
@@ -21,17 +21,13 @@ use Rattle.codes.specs.Tree.{among, is-spreading-factor}
 use Rattle.codes.proofs.Factors.{of-all, of-factors, factor-range}
 use Rattle.codes.proofs.Tests.{each-all}
 use Rattle.modulation.specs.Symbols.{pair, symbol}
-use Rattle.slot.specs.Setup.{Channel, Setup}
+use Rattle.slot.specs.Setup.{Channel, Setup, is-some}
 use Rattle.slot.specs.Slot.{burst-type, bit-count}
 use Rattle.analyser.specs.Hardening.{hard-pair, hard-bit, harden-call}
 use Rattle.bench.proofs.Accepted.{Code}
-use Rattle.demands.specs.Calls.{Call}
-use Rattle.demands.specs.Slots.{Slot, slots}
-use Rattle.demands.specs.Fields.{Field, field-1, field-2, field-length, field-start, field-before, part, DrawnWhole, field-read, reading-count, Suffice, no-burst, field-bits, AllBits}
+use Rattle.demands.specs.Fields.{Field, field-1, field-2, field-length, field-before, part, reading-count, own-symbol, own-readings, no-burst, field-bits}
 use Rattle.demands.proofs.Entries.{code-of}
 use Rattle.demands.specs.Valid.{Held, Valid}
-use Rattle.demands.proofs.History.{slot-valid}
-use Rattle.demands.proofs.ReadingTheorems.{own-reading, is-code-of}
 use Rattle.orthogonality.proofs.Hardened.{hardened}
 
 -- ---- the bits of the two fields are those of the channel
@@ -74,73 +70,45 @@ module _ (Q g : ℕ) (some-Q : 0 < Q) (some-g : 0 < g) (bits : List ℕ) (h : (i
           let v : pair bits (first + b / 2) % 2 ≡ getD bits (2 * (first + b / 2) + 1) 0 = omega (arith, h (2 * (first + b / 2) + 1)) in
           rw (ne-eqb (b % 2) 0 e) (v ∙ ap (λ (n : ℕ). getD bits n 0) i)
 
--- ---- the theorem
+-- ---- hardening a channel's own readings gives the bits that the field sends
+module _ (s : Setup) (v : Valid s) (Q k : ℕ) (c : Channel) (e : s .channel Q k ≡ some c) where
+  code : Code Q k
+  code = code-of Q k (v .code Q k (ap is-some e))
+
+  h : Held (s .type) Q c
+  h = v .channel Q k c e
+
+  pub all-bits : field-bits s field-1 Q c ++ field-bits s field-2 Q c ≡ c .bits
+  all-bits = both-fields s Q c (v .type) (code .factor) (h .count)
+
+  pub own-bits : (f : Field) (n : ℕ) → 2 * reading-count s f Q ≤ n
+      → (let o = own-readings s f Q c in harden-call (o .re) (o .im) n ≡ gives (field-bits s f Q c))
+  unfolding hard-bit
+  own-bits f n enough-bytes =
+      rw (length-listed (λ j. own j .re) N, length-listed (λ j. own j .im) N, eq-eqb N N refl, le-ltb n (2 * N) enough-bytes)
+      (ap gives all)
+    where
+      N : ℕ
+      N = reading-count s f Q
+
+      own : ℕ → Complex
+      own j = real (pos Q) ⊗ real (pos (c .gain)) ⊗ own-symbol s f Q c j
+
+      size : length (field-bits s f Q c) ≡ 2 * N
+      size =
+          length-take-le (2 * N) (drop (2 * (field-before s f / Q)) (c .bits))
+          (omega (arith, length-drop (2 * (field-before s f / Q)) (c .bits), enough s Q c (v .type) (code .factor) (h .count) f))
+
+      all : listed (2 * N) (hard-bit (value (in-buffers N own .re) (in-buffers N own .im))) ≡ field-bits s f Q c
+      all =
+          ext-getD 0 _ _ (length-listed _ (2 * N) ∙ sym size)
+          (λ b l.
+          let g : b < 2 * N = omega (arith, l, length-listed (hard-bit (value (in-buffers N own .re) (in-buffers N own .im))) (2 * N)) in
+          listed-at (hard-bit (value (in-buffers N own .re) (in-buffers N own .im))) 0 (2 * N) b g
+          ∙ ap (λ (y : Complex). cond (eqb (b % 2) 0) (hard-pair y / 2) (hard-pair y % 2)) (value-in-buffers N own (b / 2) (omega arith))
+          ∙ own-bit Q (c .gain) (factor-range Q (code .factor) .0) (h .above-0) (c .bits) (h .bit) (field-before s f / Q) b
+          ∙ sym (getD-take (2 * N) (drop (2 * (field-before s f / Q)) (c .bits)) b 0 g ∙ getD-drop (2 * (field-before s f / Q)) (c .bits) b 0))
+
 -- a slot without sync has no burst chip anywhere
-no-sync : (s : Setup) → s .sync ≡ none → (x n : ℕ) → no-burst s x n ≡ true
+pub no-sync : (s : Setup) → s .sync ≡ none → (x n : ℕ) → no-burst s x n ≡ true
 no-sync s e x n = each-all n _ (λ i l. rw e)
-
--- of each field that was drawn whole
-pub hard-bits : (calls : List (Call (List ℤ))) (slot : Slot) → List·Memᴰ slot (slots calls) → (f : Field) → DrawnWhole slot f
-    → (Q k : ℕ) (c : Channel) (m m′ n : ℕ) (r : Values)
-    → (let s = slot .settings in s .sync ≡ none → s .channel Q k ≡ some c → Suffice s f Q m m′ → 2 * reading-count s f Q ≤ n
-    → field-read slot f Q k m m′ ≡ gives r → harden-call (r .re) (r .im) n ≡ gives (field-bits s f Q c))
-unfolding hard-bit
-hard-bits calls slot i f whole Q k c m m′ n r quiet e w enough-bytes reads =
-    ap (λ (v : Values). harden-call (v .re) (v .im) n) same
-    ∙ rw (length-listed (λ j. own j .re) N, length-listed (λ j. own j .im) N, eq-eqb N N refl, le-ltb n (2 * N) enough-bytes)
-    (ap gives all)
-  where
-    s : Setup
-    s = slot .settings
-
-    v : Valid s
-    v = slot-valid calls slot i
-
-    h : Held (s .type) Q c
-    h = v .channel Q k c e
-
-    N : ℕ
-    N = reading-count s f Q
-
-    own : ℕ → Complex
-    own j = real (pos Q) ⊗ real (pos (c .gain)) ⊗ symbol (pair (c .bits) (field-before s f / Q + j))
-
-    same : r ≡ in-buffers N own
-    same = let p = own-reading calls slot i f whole Q k m m′ w c e (no-sync s quiet (field-start s f) (field-length s f)) in cc
-
-    code : Code Q k
-    code = code-of Q k (is-code-of s v f Q k c e)
-
-    size : length (field-bits s f Q c) ≡ 2 * N
-    size =
-        length-take-le (2 * N) (drop (2 * (field-before s f / Q)) (c .bits))
-        (omega (arith, length-drop (2 * (field-before s f / Q)) (c .bits), enough s Q c (v .type) (code .factor) (h .count) f))
-
-    all : listed (2 * N) (hard-bit (value (in-buffers N own .re) (in-buffers N own .im))) ≡ field-bits s f Q c
-    all =
-        ext-getD 0 _ _ (length-listed _ (2 * N) ∙ sym size)
-        (λ b l.
-        let g : b < 2 * N = omega (arith, l, length-listed (hard-bit (value (in-buffers N own .re) (in-buffers N own .im))) (2 * N)) in
-        listed-at (hard-bit (value (in-buffers N own .re) (in-buffers N own .im))) 0 (2 * N) b g
-        ∙ ap (λ (y : Complex). cond (eqb (b % 2) 0) (hard-pair y / 2) (hard-pair y % 2)) (value-in-buffers N own (b / 2) (omega arith))
-        ∙ own-bit Q (c .gain) (factor-range Q (code .factor) .0) (h .above-0) (c .bits) (h .bit) (field-before s f / Q) b
-        ∙ sym (getD-take (2 * N) (drop (2 * (field-before s f / Q)) (c .bits)) b 0 g ∙ getD-drop (2 * (field-before s f / Q)) (c .bits) b 0))
-
--- of both fields
-pub all-hard-bits : (calls : List (Call (List ℤ))) (slot : Slot) → List·Memᴰ slot (slots calls) → ((f : Field) → DrawnWhole slot f)
-    → (Q k : ℕ) (c : Channel) (m m′ n : Field → ℕ) (r : Field → Values)
-    → (let s = slot .settings in s .sync ≡ none → s .channel Q k ≡ some c → ((f : Field) → Suffice s f Q (m f) (m′ f)) → ((f : Field) → 2 * reading-count s f Q ≤ n f)
-    → ((f : Field) → field-read slot f Q k (m f) (m′ f) ≡ gives (r f)) → AllBits r n c)
-all-hard-bits calls slot i whole Q k c m m′ n r quiet e w enough-bytes reads =
-    let s = slot .settings in
-    let v = slot-valid calls slot i in
-    record {
-      first = field-bits s field-1 Q c;
-      second = field-bits s field-2 Q c;
-      first-is = of field-1;
-      second-is = of field-2;
-      all = both-fields s Q c (v .type) (code-of Q k (is-code-of s v field-1 Q k c e) .factor) (v .channel Q k c e .count);
-    }
-  where
-    of : (f : Field) → harden-call (r f .re) (r f .im) (n f) ≡ gives (field-bits (slot .settings) f Q c)
-    of f = hard-bits calls slot i f (whole f) Q k c (m f) (m′ f) (n f) (r f) quiet e (w f) (enough-bytes f) (reads f)

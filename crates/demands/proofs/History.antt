@@ -1,5 +1,5 @@
--- The accepted starts of every list of calls: the chips drawn after each are in order those of its settings, and a draw is refused 11 exactly where
--- none is left. Assumes nothing.
+-- The accepted starts so far, call after call: the chips drawn after each are in order those of its settings, and a draw is refused 11 exactly where none
+-- is left. Assumes nothing.
 use lib.IntN.{ℤ}
 use mathlib.Core.Path.{_≡_, refl, sym, ap, ap₂, subst, _∙_}
 use mathlib.Core.Logic.{_↔_}
@@ -18,38 +18,36 @@ use Rattle.slot.specs.Setup.{Setup}
 use Rattle.slot.specs.Slot.{slot-length, chip}
 use Rattle.bench.specs.declared.Bench.{Bench}
 use Rattle.bench.specs.BenchCalls.{fresh, set-cell-refusals, open-refusals, AnswerAt, refused-at, loads, close-refusals, set-gain-refusals, load-bits-refusals, set-sync-refusals}
-use Rattle.demands.specs.Calls.{Call, set-cell, open-code, load-plan, close, set-gain, load-bits, set-sync, clear-sync, start, draw, refused-by, Step, told-by, left-after}
+use Rattle.demands.specs.Calls.{Call, set-cell, open-code, load-plan, close, set-gain, load-bits, set-sync, clear-sync, start, draw, refused-by, Step}
 use Rattle.demands.specs.Reference.{Reference, fresh-reference, cell-set, opened, closed, gain-set, bits-loaded, with-sync, plan-loaded, with-settings, by-entry, by-plan, drawn, reference-step, fed}
-use Rattle.demands.specs.BenchSteps.{bench-step}
 use Rattle.demands.specs.Slots.{Slot, extended, is-start, noted, slots-from, slots, InOrder, NothingLeft}
 use Rattle.demands.specs.Valid.{Valid, ValidReference}
-use Rattle.demands.proofs.Answers.{reference-of, seen, ValidBench, agrees, bench-step-valid, fresh-same, fresh-bench-valid, answers, reached, bench-valid, reference-valid}
 
 -- ---- what holds of each accepted start
-record Good (x : Slot) : Type 0 where
+pub record Good (x : Slot) : Type 0 where
   pub in-order : InOrder x
   pub valid : Valid (x .settings)
 
-abbrev All : (Slot → Type 0) → List Slot → Type 0
+abbrev pub All : (Slot → Type 0) → List Slot → Type 0
 All P [] = Unit {0}
 All P (x ∷ xs) = P x × All P xs
 
-all-at : (P : Slot → Type 0) {x : Slot} {l : List Slot} → List·Memᴰ x l → All P l → P x
+pub all-at : (P : Slot → Type 0) {x : Slot} {l : List Slot} → List·Memᴰ x l → All P l → P x
 all-at P (List·Memᴰ·head e) a = subst P (sym e) (a .0)
 all-at P (List·Memᴰ·tail m) a = all-at P m (a .1)
 
 -- what the reference model has of the last one: the copy while chips are left, and how many are out
-record Last (r : Reference) (x : Slot) : Type 0 where
+pub record Last (r : Reference) (x : Slot) : Type 0 where
   pub copy : r .sending ≡ cond (eqb (r .sent) slot-length) none (some (x .settings))
   pub chips : x .chips ≡ in-buffers (r .sent) (chip (x .settings))
   pub valid : Valid (x .settings)
 
 -- and of all
-abbrev Noted : Reference → List Slot → Type 0
+abbrev pub Noted : Reference → List Slot → Type 0
 Noted r [] = r .sending ≡ none
 Noted r (x ∷ past) = Last r x × All Good past
 
-all-good : (r : Reference) → ValidReference r → (past : List Slot) → Noted r past → All Good past
+pub all-good : (r : Reference) → ValidReference r → (past : List Slot) → Noted r past → All Good past
 all-good r v [] h = tt
 all-good r v (x ∷ past) h = (record { in-order = record { count = r .sent; at-most = v .at-most; chips = h .0 .chips }; valid = h .0 .valid }, h .1)
 
@@ -60,7 +58,7 @@ other-settings r s [] h = h
 other-settings r s (x ∷ past) h = (record { copy = h .0 .copy; chips = h .0 .chips; valid = h .0 .valid }, h .1)
 
 -- the step, with what it adds to the slots
-abbrev Kept : List Slot → Bool → Step Reference → Type 0
+abbrev pub Kept : List Slot → Bool → Step Reference → Type 0
 Kept past t y = Noted (y .next) (noted (y .next .sending) t (y .told) past)
 
 module _ (r : Reference) (past : List Slot) (h : Noted r past) where
@@ -114,7 +112,7 @@ draw-kept s (some c) n (x ∷ past) h a b = go (eqb a b) refl
     go false e = rw e h
     go true e = rw e (more-drawn s c n (min a (slot-length - n)) x past (h .0) (h .1))
 
-kept : (r : Reference) → ValidReference r → (past : List Slot) → Noted r past
+pub kept : (r : Reference) → ValidReference r → (past : List Slot) → Noted r past
     → (c : Call (List ℤ)) → Kept past (is-start c) (reference-step r (fed c))
 unfolding reference-step fed
 kept r v past h (set-cell p t) = entry-kept r past h (set-cell-refusals p t otherwise cell-set p t)
@@ -130,40 +128,6 @@ kept r v past h (set-sync case frame half gP gS) =
 kept r v past h clear-sync = other-settings r (with-sync (r .settings) none) past h
 kept r v past h start = start-kept (r .settings) (r .sending) (r .sent) v past h
 kept r v past h (draw re im) = draw-kept (r .settings) (r .sending) (r .sent) past h (length re) (length im)
-
--- ---- a list of calls
--- what is noted of a list, by a step and the rest of it
-abbrev After : List Slot → Call (List ℤ) → List (Call (List ℤ)) → Step Reference → Type 0
-After past c cs y =
-    Noted (left-after reference-step (y .next) (map fed cs))
-    (slots-from (y .next) (noted (y .next .sending) (is-start c) (y .told) past) cs (told-by reference-step (y .next) (map fed cs)))
-
-noted-from : (b : Bench) → ValidBench b → (past : List Slot) → Noted (reference-of b) past → (calls : List (Call (List ℤ)))
-    → Noted (left-after reference-step (reference-of b) (map fed calls))
-    (slots-from (reference-of b) past calls (told-by reference-step (reference-of b) (map fed calls)))
-unfolding left-after told-by slots-from
-noted-from b v past h [] = h
-noted-from b v past h (c ∷ cs) =
-    let same = agrees b v c in
-    subst (After past c cs) (sym same)
-    (noted-from (bench-step b c .next) (bench-step-valid b v c) _ (subst (Kept past (is-start c)) same (kept (reference-of b) (v .model) past h c)) cs)
-
-slots-noted : (calls : List (Call (List ℤ))) → Noted (left-after reference-step fresh-reference (map fed calls)) (slots calls)
-slots-noted calls =
-    rw (answers calls)
-    (subst (λ (r : Reference). Noted (left-after reference-step r (map fed calls)) (slots-from r [] calls (told-by reference-step r (map fed calls)))) fresh-same
-    (noted-from fresh fresh-bench-valid [] refl calls))
-
-slots-good : (calls : List (Call (List ℤ))) → All Good (slots calls)
-slots-good calls = all-good (left-after reference-step fresh-reference (map fed calls)) (reference-valid calls) (slots calls) (slots-noted calls)
-
--- Demand 3: "The chips drawn after an accepted start are, in order, those of the settings at that start."
-pub in-order : (calls : List (Call (List ℤ))) (x : Slot) → List·Memᴰ x (slots calls) → InOrder x
-in-order calls x m = all-at Good m (slots-good calls) .in-order
-
--- "The settings at a start are the copy that the ledger then makes": they are valid.
-pub slot-valid : (calls : List (Call (List ℤ))) (x : Slot) → List·Memᴰ x (slots calls) → Valid (x .settings)
-slot-valid calls x m = all-at Good m (slots-good calls) .valid
 
 -- ---- refusal 11
 -- as many chips are drawn as the tally says
@@ -182,7 +146,7 @@ not-11 : (r : Reference) (m : ℕ) (t : Bool) → drawn r m (12 if t ∷ [] othe
 not-11 r m true e = let z : _≡_ {A = ℕ} 12 11 = cc in omega arith
 not-11 r m false e = let z : _≡_ {A = ℕ} 0 1 = cc in omega arith
 
-draw-11 : (s : Setup) (o : Option Setup) (n : ℕ) → ValidReference (model s o n) → (past : List Slot) → Noted (model s o n) past
+pub draw-11 : (s : Setup) (o : Option Setup) (n : ℕ) → ValidReference (model s o n) → (past : List Slot) → Noted (model s o n) past
     → (a b : ℕ) → (reference-step (model s o n) (draw a b) .told ≡ refused-by 11) ↔ NothingLeft past
 unfolding reference-step
 draw-11 s none n v [] h a b = (λ e. tt, λ e. refl)
@@ -190,15 +154,3 @@ draw-11 s none n v (x ∷ past) h a b = (λ e. out (h .0) ∙ gone (h .0), λ e.
 draw-11 s (some c) n v [] h a b = absurd (Option·some-ne-none c h)
 draw-11 s (some c) n v (x ∷ past) h a b =
     (λ e. absurd (not-11 (model s (some c) n) _ (not (eqb a b)) e), λ e. absurd (omega (arith, e, out (h .0), v .below refl)))
-
--- Demand 3: a draw is refused 11 exactly when "no start was accepted yet or all 2,560 chips of the last accepted one are out".
-pub refused-11 : (calls : List (Call (List ℤ))) (re im : List ℤ)
-    → (bench-step (left-after bench-step fresh calls) (draw re im) .told ≡ refused-by 11) ↔ NothingLeft (slots calls)
-unfolding fed
-refused-11 calls re im =
-    let b = left-after bench-step fresh calls in
-    let r = left-after reference-step fresh-reference (map fed calls) in
-    let same : reference-step r (draw (length re) (length im)) ≡ seen (bench-step b (draw re im)) =
-    rw (reached calls) (agrees b (bench-valid calls) (draw re im)) in
-    rw (← (ap (λ (y : Step Reference). y .told) same))
-    (draw-11 (r .settings) (r .sending) (r .sent) (reference-valid calls) (slots calls) (slots-noted calls) (length re) (length im))

@@ -1,4 +1,3 @@
--- The theorems.
 pub mod SyncOrthogonality
 pub mod BurstCorrelations
 pub mod Candidates
@@ -10,13 +9,17 @@ pub mod Entries
 pub mod TableLaws
 pub mod Otherwise
 pub mod Valid
+pub mod BenchSteps
+pub mod Contracts
 pub mod Answers
 pub mod History
+pub mod Runs
+pub mod Existence
 pub mod Plans
 pub mod FieldChips
 pub mod FieldReadings
-pub mod ReadingTheorems
+pub mod SlotReadings
 pub mod Power
 pub mod HardBits
 pub mod BurstDrawn
-pub mod Contracts
+pub mod Theorems

@@ -1,11 +1,8 @@
--- Demand 3's power: "Where none falls, counted from a field's start, the squared components of each 16 data chips add up to 16 times the sum of the
--- squared gains." Assumes nothing.
+-- The power of 16 data chips of a slot. Assumes nothing.
 use mathlib.Core.Path.{_≡_, sym, ap, _∙_}
 use mathlib.Core.Bool.{true}
-use mathlib.Core.List.{List, List·Memᴰ}
 use Prim.Native.Nat.{ℕ, _+_, _*_, _≤_, _<_}
 use native.Mathlib.Omega.{arith}
-use lib.IntN.{ℤ}
 use Rattle.complex.specs.declared.Complex.{Complex}
 use Rattle.complex.specs.Arithmetic.{squared-size, _⊕_}
 use Rattle.complex.specs.Buffers.{value}
@@ -13,20 +10,19 @@ use Rattle.complex.proofs.Ring.{⊕-𝟎}
 use Rattle.complex.proofs.Sums.{Σℤ-cong}
 use Rattle.slot.specs.Setup.{Setup}
 use Rattle.slot.specs.Slot.{data-chip, sync-chip, chip}
-use Rattle.demands.specs.Calls.{Call}
-use Rattle.demands.specs.Slots.{Slot, slots}
+use Rattle.demands.specs.Slots.{Slot}
 use Rattle.demands.specs.Fields.{Field, field-length, field-start, field-before, Drawn, no-burst, power-of-16, power-due}
 use Rattle.demands.specs.Valid.{Valid}
-use Rattle.demands.proofs.History.{in-order, slot-valid}
+use Rattle.demands.proofs.History.{Good}
 use Rattle.demands.proofs.FieldChips.{chip-in-field, unrelated}
 use Rattle.demands.proofs.FieldReadings.{quiet-chip, drawn-chip}
 use Rattle.orthogonality.proofs.DataPower.{data-power}
 
 -- The 16 chips from chip 16m of a field on, all drawn, no burst chip among them; the field need not be drawn whole.
-pub power : (calls : List (Call (List ℤ))) (slot : Slot) → List·Memᴰ slot (slots calls) → (f : Field) (m : ℕ)
+pub slot-power : (slot : Slot) → Good slot → (f : Field) (m : ℕ)
     → (let s = slot .settings in 16 * m + 16 ≤ field-length s f → Drawn slot (field-start s f + 16 * m) 16
     → no-burst s (field-start s f + 16 * m) 16 ≡ true → power-of-16 slot (field-start s f + 16 * m) ≡ power-due s)
-power calls slot i f m inside drawn quiet =
+slot-power slot g f m inside drawn quiet =
     Σℤ-cong 16 _ _ (λ n l. ap squared-size (chip-is n l))
     ∙ data-power s (v .cell) (unrelated s v) (λ Q k c t e. v .channel Q k c e .bit) (field-before s f) m
   where
@@ -34,13 +30,13 @@ power calls slot i f m inside drawn quiet =
     s = slot .settings
 
     v : Valid s
-    v = slot-valid calls slot i
+    v = g .valid
 
     chip-is : (n : ℕ) → n < 16 → value (slot .chips .re) (slot .chips .im) (field-start s f + 16 * m + n) ≡ data-chip s (field-before s f) (m * 16 + n)
     chip-is n l =
         let x = field-start s f + 16 * m in
         let e : x + n ≡ field-start s f + (m * 16 + n) = omega arith in
-        drawn-chip slot v (in-order calls slot i) (x + n) (omega arith)
+        drawn-chip slot v (g .in-order) (x + n) (omega arith)
         ∙ ap (chip s) e
         ∙ chip-in-field s f (m * 16 + n) (omega arith)
         ∙ ap (λ (z : Complex). data-chip s (field-before s f) (m * 16 + n) ⊕ z)

@@ -1,7 +1,8 @@
--- Document 01, "The list and its ledger": the list of bench calls. "The list has any length, also 0, and any arguments. Its first call takes the
--- fresh bench, each other one the bench as the call before left it."
+-- Document 01, "The list and its ledger": the calls of a list, with any arguments, and what each gives.
+use lib.IntN.{ℤ}
 use Prim.Native.Nat.{ℕ}
-use mathlib.Core.List.{List, [], _∷_}
+use mathlib.Core.List.{List}
+use lib.ListN.{take}
 use Rattle.complex.specs.Buffers.{Values}
 use Rattle.codes.specs.Refusals.{Answer, refused, gives}
 use Rattle.bench.specs.declared.Channel.{Channel as Record}
@@ -28,7 +29,7 @@ pub data Told : Type 0 where
   refused-record : (number place : ℕ) → Told
   drew : (count : ℕ) (chips : Values) → Told
 
--- what a call gives, and what the next call starts from
+-- what a call gives, and the bench, or the model, that it leaves
 pub record Step (S : Type 0) : Type 0 where
   pub told : Told
   pub next : S
@@ -41,12 +42,7 @@ abbrev pub tell-plan : AnswerAt (Unit {0}) → Told
 tell-plan (refused-at n place) = refused-record n place
 tell-plan (loads a) = accepted
 
--- what a list of calls gives, call by call
-unfoldable pub told-by : {S B : Type 0} → (S → Call B → Step S) → S → List (Call B) → List Told
-told-by step s [] = []
-told-by step s (c ∷ cs) = step s c .told ∷ told-by step (step s c .next) cs
-
--- what it leaves
-unfoldable pub left-after : {S B : Type 0} → (S → Call B → Step S) → S → List (Call B) → S
-left-after step s [] = s
-left-after step s (c ∷ cs) = left-after step (step s c .next) cs
+-- re and im are the buffers as the draw left them
+abbrev pub tell-draw : Answer ℕ → List ℤ → List ℤ → Told
+tell-draw (refused n) re im = refused-by n
+tell-draw (gives m) re im = drew m (record { re = take m re; im = take m im })

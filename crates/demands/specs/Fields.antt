@@ -11,7 +11,6 @@ use Rattle.complex.specs.declared.Complex.{Complex}
 use Rattle.complex.specs.Arithmetic.{real, 𝟎, _⊕_, _⊗_, Σℤ<, squared-size}
 use Rattle.complex.specs.Buffers.{value, Values, in-buffers}
 use Rattle.codes.specs.Range.{each}
-use Rattle.codes.specs.Refusals.{Answer, gives}
 use Rattle.codes.specs.Tree.{related}
 use Rattle.codes.specs.Scrambling.{code-group}
 use Rattle.sync_codes.specs.Burst.{burst-start}
@@ -20,10 +19,9 @@ use Rattle.slot.specs.declared.parts.Parts.{Parts}
 use Rattle.slot.specs.Setup.{Channel, Setup, is-some, is-open}
 use Rattle.slot.specs.Slot.{burst-type, sync-chip, chip}
 use Rattle.bench.specs.BenchCalls.{some-code}
-use Rattle.analyser.specs.Reading.{read-call}
-use Rattle.analyser.specs.Hardening.{harden-call}
 use Rattle.orthogonality.specs.Gains.{squared-gains}
 use Rattle.demands.specs.Reference.{with-sync}
+use Rattle.demands.specs.AnalyserRuns.{Output, RanRead, RanHarden, wrote, wrote-bits}
 use Rattle.demands.specs.Slots.{Slot}
 
 -- the two data fields of a slot
@@ -58,9 +56,6 @@ field-before s f = before-of (burst-type (s .type)) f
 abbrev pub part : {A : Type 0} → ℕ → ℕ → List A → List A
 part at n l = take n (drop at l)
 
-abbrev pub field-part : {A : Type 0} → Setup → Field → List A → List A
-field-part s f l = part (field-start s f) (field-length s f) l
-
 -- the chips from chip x to chip x + n - 1 of the slot are drawn: they come in order from chip 0 on (`in-order`), so it is enough to count them
 abbrev pub Drawn : Slot → ℕ → ℕ → Type 0
 Drawn slot x n = x + n ≤ length (slot .chips .re)
@@ -69,19 +64,29 @@ Drawn slot x n = x + n ≤ length (slot .chips .re)
 abbrev pub DrawnWhole : Slot → Field → Type 0
 DrawnWhole slot f = let s = slot .settings in Drawn slot (field-start s f) (field-length s f)
 
--- "It is read from two buffers that hold them in order, for any code, with answer buffers that suffice", here of m and m′ entries, and "with that
--- start's cell parameter".
-abbrev pub field-read : Slot → Field → ℕ → ℕ → ℕ → ℕ → Answer Values
-field-read slot f Q k m m′ =
-    let s = slot .settings in
-    read-call (s .cell) Q k (field-part s f (slot .chips .re)) (field-part s f (slot .chips .im)) m m′
+-- n chips of the slot from chip x on, and a field, as they were drawn, in two buffers that "hold them in order"
+abbrev pub chips-from : Slot → ℕ → ℕ → Values
+chips-from slot x n = record { re = part x n (slot .chips .re); im = part x n (slot .chips .im) }
+
+abbrev pub drawn-field : Slot → Field → Values
+drawn-field slot f = let s = slot .settings in chips-from slot (field-start s f) (field-length s f)
 
 abbrev pub reading-count : Setup → Field → ℕ → ℕ
 reading-count s f Q = field-length s f / Q
 
-pub record Suffice (s : Setup) (f : Field) (Q m m′ : ℕ) : Type 0 where
-  pub re : reading-count s f Q ≤ m
-  pub im : reading-count s f Q ≤ m′
+-- "answer buffers that suffice"
+pub record Suffice (s : Setup) (f : Field) (Q : ℕ) (out : Values) : Type 0 where
+  pub re : reading-count s f Q ≤ length (out .re)
+  pub im : reading-count s f Q ≤ length (out .im)
+
+-- A field drawn whole, read: "It is read from two buffers that hold them in order, for any code, with answer buffers that suffice", and "with that
+-- start's cell parameter". `read` is what the function read gave and left there.
+pub record FieldRead (slot : Slot) (f : Field) (Q k : ℕ) : Type 0 where
+  pub whole : DrawnWhole slot f
+  pub out : Values
+  pub suffice : Suffice (slot .settings) f Q out
+  pub read : Output Values
+  pub ran : RanRead (slot .settings .cell) Q k (drawn-field slot f) out read
 
 -- "A code's own symbols are those of that field, the n-th for reading n."
 abbrev pub own-symbol : Setup → Field → ℕ → Channel → ℕ → Complex
@@ -108,32 +113,29 @@ burst-at s x = let start = burst-start (code-group (s .cell)) in is-some (s .syn
 abbrev pub no-burst : Setup → ℕ → ℕ → Bool
 no-burst s x n = each n (λ i. not (burst-at s (x + i)))
 
--- "A sync burst's own reading is what the same read gives for that field with the burst's chips alone, 0 around them."
-abbrev pub burst-read : Setup → Field → ℕ → ℕ → ℕ → ℕ → Answer Values
-burst-read s f Q k m m′ =
-    let b = in-buffers (field-length s f) (λ q. sync-chip (s .cell) (s .sync) (field-start s f + q)) in
-    read-call (s .cell) Q k (b .re) (b .im) m m′
+-- "that field with the burst's chips alone, 0 around them"
+abbrev pub burst-field : Setup → Field → Values
+burst-field s f = in-buffers (field-length s f) (λ q. sync-chip (s .cell) (s .sync) (field-start s f + q))
 
--- what the same read gives for that field of the same settings without sync
-abbrev pub quiet-read : Setup → Field → ℕ → ℕ → ℕ → ℕ → Answer Values
-quiet-read s f Q k m m′ =
-    let b = in-buffers (field-length s f) (λ q. chip (with-sync s none) (field-start s f + q)) in
-    read-call (s .cell) Q k (b .re) (b .im) m m′
+-- that field of the same settings without sync
+abbrev pub quiet-field : Setup → Field → Values
+quiet-field s f = in-buffers (field-length s f) (λ q. chip (with-sync s none) (field-start s f + q))
 
 -- two lists of n values, added one by one
 abbrev pub added : ℕ → Values → Values → Values
 added n v w = in-buffers n (λ i. value (v .re) (v .im) i ⊕ value (w .re) (w .im) i)
 
--- "A sync burst adds exactly its own reading."
-pub record BurstAdds (slot : Slot) (f : Field) (Q k m m′ : ℕ) : Type 0 where
-  pub quiet : Values
+-- "A sync burst adds exactly its own reading.", which "is what the same read gives for that field with the burst's chips alone": quiet and burst are what
+-- read gave and left for the field without sync, and for the burst alone, with the same answer buffers
+pub record BurstAdds (slot : Slot) (f : Field) (Q k : ℕ) (x : FieldRead slot f Q k) (quiet burst : Output Values) : Type 0 where
+  pub others : Values
   pub own : Values
-  pub quiet-is : quiet-read (slot .settings) f Q k m m′ ≡ gives quiet
-  pub own-is : burst-read (slot .settings) f Q k m m′ ≡ gives own
-  pub sum : field-read slot f Q k m m′ ≡ gives (added (reading-count (slot .settings) f Q) quiet own)
+  pub others-is : quiet ≡ wrote others (x .out)
+  pub own-is : burst ≡ wrote own (x .out)
+  pub sum : x .read ≡ wrote (added (reading-count (slot .settings) f Q) others own) (x .out)
   -- where the code is open, and where it is unrelated to all open ones
-  pub open-code : (c : Channel) → slot .settings .channel Q k ≡ some c → quiet ≡ own-readings (slot .settings) f Q c
-  pub unrelated-code : unrelated (slot .settings) Q k ≡ true → quiet ≡ zero-readings (slot .settings) f Q
+  pub open-code : (c : Channel) → slot .settings .channel Q k ≡ some c → others ≡ own-readings (slot .settings) f Q c
+  pub unrelated-code : unrelated (slot .settings) Q k ≡ true → others ≡ zero-readings (slot .settings) f Q
 
 -- ---- power, hard bits
 -- "the squared components of each 16 data chips add up to": those from chip x of the slot on, as they were drawn. "A stretch of 16 data chips counts
@@ -149,11 +151,25 @@ power-due s = pos (16 * squared-gains s)
 abbrev pub field-bits : Setup → Field → ℕ → Channel → List ℕ
 field-bits s f Q c = part (2 * (field-before s f / Q)) (2 * reading-count s f Q) (c .bits)
 
--- "yields the bits it held when that slot started": the hard bits of both fields, one after the other; for each, r is what read
--- gave and n the number of bytes lent
-pub record AllBits (r : Field → Values) (n : Field → ℕ) (c : Channel) : Type 0 where
-  pub first : List ℕ
-  pub second : List ℕ
-  pub first-is : harden-call (r field-1 .re) (r field-1 .im) (n field-1) ≡ gives first
-  pub second-is : harden-call (r field-2 .re) (r field-2 .im) (n field-2) ≡ gives second
-  pub all : first ++ second ≡ c .bits
+-- the first n values of two buffers
+abbrev pub first-values : ℕ → Values → Values
+first-values n v = record { re = take n (v .re); im = take n (v .im) }
+
+-- A field read, and its readings hardened into a byte buffer that suffices: `hardened` is what the function harden gave and left there.
+pub record FieldHardened (slot : Slot) (f : Field) (Q k : ℕ) : Type 0 where
+  pub field : FieldRead slot f Q k
+  pub bits : List ℕ
+  pub suffice : 2 * reading-count (slot .settings) f Q ≤ length bits
+  pub hardened : Output (List ℕ)
+  pub ran : RanHarden (first-values (reading-count (slot .settings) f Q) (field .read .left)) bits hardened
+
+-- "hardening the readings of a channel .. yields the bits it held when that slot started": read wrote the channel's own readings, and harden the bits that
+-- the field sends
+pub record HardBits (slot : Slot) (f : Field) (Q k : ℕ) (c : Channel) (x : FieldHardened slot f Q k) : Type 0 where
+  pub readings : x .field .read ≡ wrote (own-readings (slot .settings) f Q c) (x .field .out)
+  pub hard : x .hardened ≡ wrote-bits (field-bits (slot .settings) f Q c) (x .bits)
+
+-- of both fields: one after the other, they are all of its bits
+pub record AllHardBits (slot : Slot) (Q k : ℕ) (c : Channel) (x : (f : Field) → FieldHardened slot f Q k) : Type 0 where
+  pub each-field : (f : Field) → HardBits slot f Q k c (x f)
+  pub all : field-bits (slot .settings) field-1 Q c ++ field-bits (slot .settings) field-2 Q c ≡ c .bits

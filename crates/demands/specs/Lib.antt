@@ -1,6 +1,8 @@
 pub mod Calls
 pub mod Reference
-pub mod BenchSteps
+pub mod LoadPlanReads
+pub mod Runs
+pub mod AnalyserRuns
 pub mod Slots
 pub mod Fields
 pub mod Valid

@@ -2,7 +2,7 @@
 -- and nothing that the bench holds or answers."
 use Prim.Native.Nat.{ℕ, suc, _+_, _-_, min}
 use mathlib.Core.List.{List, [], _∷_}
-use mathlib.Core.Bool.{Bool, not, _&&_, cond}
+use mathlib.Core.Bool.{Bool, _&&_, cond}
 use mathlib.Core.Option.{Option, none, some}
 use lib.IntN.{ℤ}
 use lib.Dec.{eqb}
@@ -10,12 +10,12 @@ use lib.ListN.{length, replicate}
 use Rattle.complex.specs.declared.Complex.{Complex}
 use Rattle.complex.specs.Arithmetic.{𝟎}
 use Rattle.complex.specs.Buffers.{in-buffers}
-use Rattle.codes.specs.Refusals.{Answer, refused, gives, _if_, _otherwise_}
+use Rattle.codes.specs.Refusals.{Answer, refused, gives, _otherwise_}
 use Rattle.slot.specs.Setup.{Channel, SyncSetup, Setup, is-some}
 use Rattle.slot.specs.Slot.{slot-length, bit-count, chip}
 use Rattle.bench.specs.declared.Channel.{Channel as Record}
-use Rattle.bench.specs.BenchCalls.{set-cell-refusals, open-refusals, AnswerAt, refused-at, loads, close-refusals, set-gain-refusals, load-bits-refusals, set-sync-refusals}
-use Rattle.demands.specs.Calls.{Call, set-cell, open-code, load-plan, close, set-gain, load-bits, set-sync, clear-sync, start, draw, accepted, refused-by, refused-record, drew, Step}
+use Rattle.bench.specs.BenchCalls.{set-cell-refusals, open-refusals, AnswerAt, refused-at, loads, close-refusals, set-gain-refusals, load-bits-refusals, set-sync-refusals, start-refusals, draw-refusals}
+use Rattle.demands.specs.Calls.{Call, set-cell, open-code, load-plan, close, set-gain, load-bits, set-sync, clear-sync, start, draw, Told, accepted, refused-by, refused-record, drew, Step}
 
 -- It has settings, a copy of settings or none (`sending`), and a tally (`sent`);
 pub record Reference : Type 0 where
@@ -126,9 +126,8 @@ reference-step r (set-sync case frame half gP gS) =
     by-entry r (set-sync-refusals s case frame half gP gS otherwise
     with-sync s (some (record { case = case; frame = frame; half = half; gP = gP; gS = gS })))
 reference-step r clear-sync = by-entry r ([] otherwise with-sync (r .settings) none)
-reference-step r start = started r (10 if under-way r ∷ [] otherwise tt)
-reference-step r (draw n n′) =
-    drawn r (min n (slot-length - r .sent)) (11 if not (under-way r) ∷ 12 if not (eqb n n′) ∷ [] otherwise tt)
+reference-step r start = started r (start-refusals (under-way r) otherwise tt)
+reference-step r (draw n n′) = drawn r (min n (slot-length - r .sent)) (draw-refusals (under-way r) n n′ otherwise tt)
 
 -- what of a call is fed to it: its arguments, for a draw the two buffer lengths
 unfoldable pub fed : Call (List ℤ) → Call ℕ
@@ -142,3 +141,8 @@ fed (set-sync case frame half gP gS) = set-sync case frame half gP gS
 fed clear-sync = clear-sync
 fed start = start
 fed (draw re im) = draw (length re) (length im)
+
+-- what it gives for a list of calls, call by call
+unfoldable pub told-by : Reference → List (Call ℕ) → List Told
+told-by r [] = []
+told-by r (c ∷ cs) = reference-step r c .told ∷ told-by (reference-step r c .next) cs

@@ -10,10 +10,9 @@ use lib.ListN.{length}
 use Rattle.complex.specs.Buffers.{Values, in-buffers}
 use Rattle.slot.specs.Setup.{Setup}
 use Rattle.slot.specs.Slot.{slot-length, chip}
-use Rattle.bench.specs.BenchCalls.{fresh}
-use Rattle.demands.specs.Calls.{Call, set-cell, open-code, load-plan, close, set-gain, load-bits, set-sync, clear-sync, start, draw, Told, accepted, refused-by, refused-record, drew, told-by}
+use Rattle.demands.specs.Calls.{Call, set-cell, open-code, load-plan, close, set-gain, load-bits, set-sync, clear-sync, start, draw, Told, accepted, refused-by, refused-record, drew}
 use Rattle.demands.specs.Reference.{Reference, fresh-reference, reference-step, fed}
-use Rattle.demands.specs.BenchSteps.{bench-step}
+use Rattle.demands.specs.Runs.{Run, told-in}
 
 -- an accepted start: the settings at it, and the chips drawn after it
 pub record Slot : Type 0 where
@@ -56,9 +55,9 @@ slots-from r past (c ∷ cs) (t ∷ told) =
     let next = reference-step r (fed c) .next in
     slots-from next (noted (next .sending) (is-start c) t past) cs told
 
--- the accepted starts of a list of calls from a fresh bench, the last one first
-abbrev pub slots : List (Call (List ℤ)) → List Slot
-slots calls = slots-from fresh-reference [] calls (told-by bench-step fresh calls)
+-- the accepted starts of a run, the last one first
+abbrev pub slots : Run → List Slot
+slots run = slots-from fresh-reference [] (run .calls) (told-in (run .steps))
 
 -- "The chips drawn after an accepted start are, in order, those of the settings at that start": chips 0 to count - 1
 pub record InOrder (x : Slot) : Type 0 where

@@ -1,24 +1,18 @@
 -- The bench's side of the list: each call is what its contract says of answer, new bench and buffers.
 use lib.IntN.{ℤ}
-use Prim.Native.Nat.{ℕ}
 use mathlib.Core.List.{List}
-use lib.ListN.{length, take}
+use lib.ListN.{length}
 use Rattle.complex.specs.Buffers.{written}
-use Rattle.codes.specs.Refusals.{Answer, refused, gives, outcome, after}
+use Rattle.codes.specs.Refusals.{Answer, outcome, after}
 use Rattle.bench.specs.declared.Bench.{Bench}
 use Rattle.bench.specs.BenchCalls.{set-cell-call, open-call, AnswerAt, load-plan-call, plan-outcome, plan-left-by, close-call, set-gain-call, load-bits-call, set-sync-call, clear-sync-call, start-call, Draw, draw-call, counted, left-by}
-use Rattle.demands.specs.Calls.{Call, set-cell, open-code, load-plan, close, set-gain, load-bits, set-sync, clear-sync, start, draw, Told, refused-by, drew, Step, tell, tell-plan}
+use Rattle.demands.specs.Calls.{Call, set-cell, open-code, load-plan, close, set-gain, load-bits, set-sync, clear-sync, start, draw, Step, tell, tell-plan, tell-draw}
 
 abbrev pub called : Bench → Answer Bench → Step Bench
 called b r = record { told = tell (outcome r); next = left-by r b }
 
 abbrev pub planned : Bench → AnswerAt Bench → Step Bench
 planned b r = record { told = tell-plan (plan-outcome r); next = plan-left-by r b }
-
--- a draw's count, and the first so many entries of the buffers as it left them
-abbrev pub tell-draw : Answer ℕ → List ℤ → List ℤ → Told
-tell-draw (refused n) re im = refused-by n
-tell-draw (gives m) re im = drew m (record { re = take m re; im = take m im })
 
 abbrev pub drawn : Bench → List ℤ → List ℤ → Answer Draw → Step Bench
 drawn b re im r =
