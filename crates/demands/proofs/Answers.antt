@@ -27,7 +27,7 @@ use Rattle.bench.specs.BenchCalls.{under-way, fresh, set-cell-refusals, open-re
 use Rattle.bench.proofs.Accepted.{good-code, gain-range}
 use Rattle.bench.proofs.Loading.{is-bit}
 use Rattle.demands.specs.Calls.{Call, set-cell, open-code, load-plan, close, set-gain, load-bits, set-sync, clear-sync, start, draw, drew, Step}
-use Rattle.demands.specs.Reference.{Reference, fresh-reference, opened, closed, gain-set, bits-loaded, with-sync, records-opened, by-entry, by-plan, started, copy-chip, drawn, reference-step, fed}
+use Rattle.demands.specs.Reference.{Reference, fresh-reference, opened, closed, gain-set, bits-loaded, with-sync, records-opened, under-way as copy-there, by-entry, by-plan, started, copy-chip, drawn, reference-step, fed}
 use Rattle.demands.specs.Runs.{Ran}
 use Rattle.demands.proofs.BenchSteps.{bench-step, called, planned, drawn as bench-drawn}
 use Rattle.demands.proofs.Contracts.{ran-step}
@@ -119,9 +119,12 @@ module _ (s : Settings) (h : ValidTables s) where
 
 -- ---- the air
 -- a slot is under way in both, or in none
-air : (t : Bool) (s : Setup) → is-some (cond t (some s) none) ≡ t
-air true s = refl
-air false s = refl
+air : (b : Bench) → copy-there (reference-of b) ≡ under-way b
+air b = go (under-way b)
+  where
+    go : (t : Bool) → is-some (cond t (some (view (b .sending))) none) ≡ t
+    go true = refl
+    go false = refl
 
 -- at 2,560 the copy goes, and the bench stops running
 copy-goes : (x running : ℕ) (s : Setup) → x ≤ slot-length → not (eqb running 0) ≡ true
@@ -193,7 +196,7 @@ module _ (b : Bench) (v : ValidBench b) where
   start-steps : Steps (reference-step (reference-of b) start) (bench-step b start)
   unfolding reference-step bench-step
   start-steps =
-      rw (air (under-way b) (view (b .sending)))
+      rw (air b)
       (alike (λ (x : Answer (Unit {0})) (y : Answer Bench). Steps (started (reference-of b) x) (called b y)) (λ n. record { same = refl; valid = v })
       (start-refusals (under-way b)) tt (record { settings = b .settings; running = 1; sending = b .settings; position = 0 })
       (λ p. record { same = refl; valid = started-valid }))
@@ -229,7 +232,7 @@ module _ (b : Bench) (v : ValidBench b) where
   draw-steps re im =
       let m : ℕ = min (length re) (slot-length - b .position) in
       let l : b .position + m ≤ slot-length = omega (arith, v .model .at-most) in
-      rw (air (under-way b) (view (b .sending)))
+      rw (air b)
       (alike (λ (x : Answer (Unit {0})) (y : Answer Draw). Steps (drawn (reference-of b) m x) (bench-drawn b re im y)) (λ n. record { same = refl; valid = v })
       (draw-refusals (under-way b) (length re) (length im)) tt (draw-of b m)
       (λ p. record { same = chips-drawn re im m l (not-false _ (p .0)); valid = moved-valid m l }))

@@ -9,12 +9,12 @@ use native.Mathlib.Decide.{ℕ-discrete}
 use native.Mathlib.Omega.{arith}
 use borrow.Author.Tests.{eq-eqb, ne-eqb, le-ltb}
 use lib.Dec.{eqb}
-use lib.IntN.{ℤ, pos}
+use lib.IntN.{pos}
 use lib.ListN.{length, getD, drop, length-drop, take-append-drop}
 use lib.Seq.{ext-getD, getD-drop, getD-take, length-take-le, take-all}
 use Rattle.complex.specs.declared.Complex.{Complex}
 use Rattle.complex.specs.Arithmetic.{real, _⊗_}
-use Rattle.complex.specs.Buffers.{value, listed, Values, in-buffers}
+use Rattle.complex.specs.Buffers.{value, listed, in-buffers}
 use Rattle.complex.proofs.Lists.{length-listed, listed-at, value-in-buffers}
 use Rattle.codes.specs.Refusals.{gives}
 use Rattle.codes.specs.Tree.{among, is-spreading-factor}
@@ -85,7 +85,7 @@ module _ (s : Setup) (v : Valid s) (Q k : ℕ) (c : Channel) (e : s .channel Q k
       → (let o = own-readings s f Q c in harden-call (o .re) (o .im) n ≡ gives (field-bits s f Q c))
   unfolding hard-bit
   own-bits f n enough-bytes =
-      rw (length-listed (λ j. own j .re) N, length-listed (λ j. own j .im) N, eq-eqb N N refl, le-ltb n (2 * N) enough-bytes)
+      rw (length-listed _ N, length-listed _ N, eq-eqb N N refl, le-ltb n (2 * N) enough-bytes)
       (ap gives all)
     where
       N : ℕ

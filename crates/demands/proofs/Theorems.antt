@@ -1,13 +1,13 @@
 -- Demands 2 and 3 of every run of the functions: a list of calls of any length and with any arguments, refused ones included, from a fresh bench. Every list
 -- has a run (`runs-exist`). Assumes nothing.
 use Prim.Native.Nat.{ℕ, _+_, _*_, _≤_}
-use mathlib.Core.Path.{_≡_, ap, ap₂, subst, _∙_}
+use mathlib.Core.Path.{_≡_, ap, ap₂, _∙_}
 use mathlib.Core.Logic.{_↔_}
 use mathlib.Core.Bool.{true, false}
 use mathlib.Core.List.{List, List·Memᴰ, map}
 use mathlib.Core.Option.{none, some}
 use lib.IntN.{ℤ}
-use lib.ListN.{length, take}
+use lib.ListN.{length}
 use Rattle.complex.specs.Buffers.{Values, in-buffers}
 use Rattle.complex.proofs.Lists.{take-written}
 use Rattle.codes.specs.Refusals.{Answer, gives}
