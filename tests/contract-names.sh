@@ -1,11 +1,12 @@
 #!/bin/sh
-# The theorem `answers` (crate demands) speaks of the bench's calls by definitions: those that `bench-step` runs. This test holds the two texts to
-# each other, call by call: the `ensures` clauses of the call's function, all of them and word for word, with the function's parameters in their
-# order, and the clause of `bench-step`, with the arguments of the list's call in their order. Both must name the same definition.
+# A run (crate demands, specs/Runs) speaks of the bench's functions by name, and no theorem can say that it names them all. This test does: every public
+# function of the bench is a case of a run, taken by what its own contract ensures (`Learnt`; `fresh` is what a run begins with), and has its field in `Asks`,
+# of which `asks-nothing` says that it asks nothing: no public function has a `requires`.
 # With an argument, that folder is tested in place of this repository.
 set -eu
 root=${1:-$(cd "$(dirname "$0")/.." && pwd)}
-steps=$root/crates/demands/specs/BenchSteps.antt
+runs=$root/crates/demands/specs/Runs.antt
+plan=$root/crates/demands/specs/LoadPlanReads.antt
 code=$root/crates/bench/src/lib.rt
 
 fail() {
@@ -13,84 +14,34 @@ fail() {
     exit 1
 }
 
-# The parameters of a function as a contract writes them: a lent list by what it holds, a lent buffer by its length.
-parameters() {
-    sed -n "s/^    pub fn $1(\(.*\)) -> .*/\1/p" "$code" | tr ',' '\n' | sed -n '
-        /self$/d
-        s/^ *\([a-z]*\): &mut .*/(length (now (\1 .entry)))/p; t
-        s/^ *\([a-z]*\): &.*/(now (\1 .entry))/p; t
-        s/^ *\([a-z]*\): .*/\1/p' | paste -s -d ' ' -
-}
-
-# What a function ensures, a line a clause, with no blanks before it.
-ensured() {
-    awk -v name="$1" '
-        index($0, "    pub fn " name "(") == 1 { inside = 1 }
-        /^    [{]/ { inside = 0 }
-        inside && $1 == "ensures" { sub(/^ +/, ""); print }' "$code"
-}
-
 # compare WHAT FOUND DUE
 compare() {
-    [ "$2" = "$3" ] || fail "$1 is
+    [ "$2" = "$3" ] || fail "$1 are
 $2
 and should be
 $3"
 }
 
-calls=0
-# pair CALL FUNCTION CONSTRUCTOR ARGUMENTS: a call of the list, its function, and its arguments as the step passes them on
-pair() {
-    call=$1 function=$2 constructor=$3 arguments=$4
-    definition=$call-call
-    passed=$(parameters "$function")
-    of="($definition self${passed:+ $passed})"
-    case $call in
-    load-plan)
-        wrapped="planned b"
-        due="ensures answer { λ r. ⌜ told-plan (r .answer) ≡ plan-outcome $of ⌝ }
-ensures bench { λ r. ⌜ r .bench ≡ plan-left-by $of self ⌝ }"
-        ;;
-    draw)
-        wrapped="drawn b re im"
-        due="ensures answer { λ r. ⌜ told-draw (r .answer) ≡ counted $of ⌝ }
-ensures bench { λ r. ⌜ r .bench ≡ after $of self (λ d. d .bench) ⌝ }
-ensures real { λ r. ⌜ now (re .exit) ≡ after $of (now (re .entry)) (λ d. written (d .chips .re) (now (re .entry))) ⌝ }
-ensures imaginary { λ r. ⌜ now (im .exit) ≡ after $of (now (im .entry)) (λ d. written (d .chips .im) (now (im .entry))) ⌝ }"
-        ;;
-    *)
-        wrapped="called b"
-        due="ensures answer { λ r. ⌜ told-call (r .answer) ≡ outcome $of ⌝ }
-ensures bench { λ r. ⌜ r .bench ≡ left-by $of self ⌝ }"
-        ;;
-    esac
-    compare "what $function ensures in $code" "$(ensured "$function")" "$due"
-    case $constructor in *' '*) pattern="($constructor)" ;; *) pattern=$constructor ;; esac
-    compare "the step of $call in $steps" "$(grep -F "bench-step b $pattern =" "$steps" || echo missing)" "bench-step b $pattern = $wrapped ($definition b${arguments:+ $arguments})"
-    calls=$((calls + 1))
-    echo "contract-names: $function ensures what the step of $call runs, $definition"
+# The contracts that a part of Runs names, one a line: named FIRST-LINE WHAT, the part ending with an empty line
+named() {
+    awk -v first="$1" 'index($0, first) == 1 { inside = 1 } /^$/ { inside = 0 } inside' "$runs" | grep -o "[a-z-]*-contract\.$2" | sed 's/-contract.*//' | sort
 }
 
-pair set-cell set_cell 'set-cell p t' '(record { 0 = p }) t'
-pair open open 'open-code Q k g' 'Q k g'
-pair load-plan load_plan 'load-plan plan' 'plan'
-pair close close 'close Q k' 'Q k'
-pair set-gain set_gain 'set-gain Q k g' 'Q k g'
-pair load-bits load_bits 'load-bits Q k bits' 'Q k bits'
-pair set-sync set_sync 'set-sync case frame half gP gS' 'case frame half gP gS'
-pair clear-sync clear_sync clear-sync ''
-pair start start start ''
-pair draw draw 'draw re im' '(length re) (length im)'
-
-# Every public function of the bench is one of these, and none asks anything of its caller.
-public=$(sed -n 's/^    pub fn \([a-z_]*\)(.*/\1/p' "$code" | sort | paste -s -d ' ' -)
-compare "the list of public functions in $code" "$public" 'clear_sync close draw fresh load_bits load_plan load_records open set_cell set_gain set_sync start'
-asks=$(awk '/^    pub fn / { name = $3; inside = 1 } /^    fn / { inside = 0 } /^    [{]/ { inside = 0 } inside && $1 == "requires" { print name }' "$code")
-[ -z "$asks" ] || fail "a public function in $code has a 'requires', and should refuse instead: $asks"
-clauses=$(grep -c '^bench-step b ' "$steps")
-[ "$clauses" = "$calls" ] || fail "bench-step has $clauses clauses, and $calls calls were compared"
-# The list begins with the bench that `fresh` gives, and a plan held by value is load plan of its records.
-compare "what fresh ensures in $code" "$(ensured fresh)" 'ensures { λ r. ⌜ r ≡ fresh ⌝ }'
-of='(load-plan-call self (take count (plan .records)))'
-compare "what load_records ensures in $code" "$(ensured load_records)" "ensures answer { λ r. ⌜ told-plan (r .answer) ≡ plan-outcome $of ⌝ }
-ensures bench { λ r. ⌜ r .bench ≡ plan-left-by $of self ⌝ }"
+functions=$(sed -n 's/^    pub fn \([a-z_]*\)(.*/\1/p' "$code" | sort)
+due=$(echo "$functions" | tr _ - | sort)
+compare "the functions whose contracts make a run" "$({ named 'pub data Ran ' Learnt; named 'pub record Run ' Learnt; } | sort)" "$due"
+compare "the functions of which Asks says what they ask" "$(named 'pub record Asks ' Asked)" "$due"
+for function in $functions; do
+    name=$(echo "$function" | tr _ -)
+    case $function in
+    load_plan) # walked by hand, and read in a file of its own
+        grep -qF "use Rattle.demands.specs.LoadPlanReads as $name-contract" "$runs" && grep -qF "use Rattle.bench.proofs.Bench.$function.{clauses," "$plan"
+        ;;
+    *) grep -qF "use Rattle.bench.proofs.Bench.$function.Reads as $name-contract" "$runs" ;;
+    esac || fail "$name-contract in $runs is not the contract of $function"
+    [ "$function" = fresh ] || awk -v name="$name" '
+        index($0, "  by-") == 1 { inside = index($0, "  by-" name " :") == 1 }
+        inside && index($0, name "-contract.Learnt ") { found = 1 }
+        END { exit !found }' "$runs" || fail "the case by-$name in $runs does not take what $function ensures"
+    echo "contract-names: $function is a case of a run by its own contract"
+done

@@ -1,4 +1,5 @@
--- The bench's side of the list: each call is what its contract says of answer, new bench and buffers.
+-- A call as one function of the bench, by the definitions that the contracts cite. An inner step: a run speaks of the functions alone, and `ran-step` leads
+-- from them to here. Assumes nothing.
 use lib.IntN.{ℤ}
 use mathlib.Core.List.{List}
 use lib.ListN.{length}

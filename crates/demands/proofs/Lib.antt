@@ -11,7 +11,7 @@ pub mod Otherwise
 pub mod Valid
 pub mod BenchSteps
 pub mod Contracts
-pub mod Answers
+pub mod Steps
 pub mod History
 pub mod Runs
 pub mod Existence

@@ -9,7 +9,7 @@ use Rattle.demands.specs.Calls.{Call, Told, Step}
 use Rattle.demands.specs.Reference.{Reference, fresh-reference, fed, told-by}
 use Rattle.demands.specs.Runs.{RunFrom, ended, _then_, Run, told-in, left-from, left-in}
 use Rattle.demands.specs.Slots.{Slot, is-start, noted, slots-from, slots}
-use Rattle.demands.proofs.Answers.{reference-of, ValidBench, ran-steps, fresh-same, fresh-bench-valid}
+use Rattle.demands.proofs.Steps.{reference-of, ValidBench, ran-steps, fresh-same, fresh-bench-valid}
 use Rattle.demands.proofs.History.{Good, All, Noted, all-good, Kept, kept}
 
 -- what holds of the calls from the bench b on

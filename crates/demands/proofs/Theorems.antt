@@ -27,7 +27,7 @@ use Rattle.demands.specs.AnalyserRuns.{Output, RanRead, RanReadSync, wro
 use Rattle.demands.specs.Slots.{Slot, slots, InOrder, NothingLeft}
 use Rattle.demands.specs.Fields.{Field, field-length, field-start, Drawn, chips-from, reading-count, FieldRead, own-readings, unrelated, zero-readings, no-burst, burst-field, quiet-field, BurstAdds, power-of-16, power-due, first-values, FieldHardened, HardBits, AllHardBits}
 use Rattle.demands.specs.Valid.{Valid}
-use Rattle.demands.proofs.Answers.{reference-of, ValidBench, ran-steps}
+use Rattle.demands.proofs.Steps.{reference-of, ValidBench, ran-steps}
 use Rattle.demands.proofs.BurstDrawn.{slot-burst}
 use Rattle.demands.proofs.Contracts.{read-meets, harden-meets, read-sync-meets}
 use Rattle.demands.proofs.FieldReadings.{of-data, of-burst}
