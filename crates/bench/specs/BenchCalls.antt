@@ -144,7 +144,7 @@ clear-sync-call b = [] otherwise with-settings b (with-sync (b .settings) no-syn
 
 -- Start copies settings to the air, position 0. Refuses 10 slot under way.
 abbrev pub start-refusals : Bool → List Refusal
-start-refusals u = 10 if u ∷ []
+start-refusals slot-under-way = 10 if slot-under-way ∷ []
 
 abbrev pub start-call : Bench → Answer Bench
 start-call b =
@@ -160,7 +160,7 @@ pub record Draw : Type 0 where
   pub bench : Bench
 
 abbrev pub draw-refusals : Bool → ℕ → ℕ → List Refusal
-draw-refusals u n n′ = 11 if not u ∷ 12 if not (eqb n n′) ∷ []
+draw-refusals slot-under-way n n′ = 11 if not slot-under-way ∷ 12 if not (eqb n n′) ∷ []
 
 -- m more chips are out; after the last chip there is no slot
 abbrev pub moved-on : Bench → ℕ → Bench
