@@ -143,9 +143,12 @@ abbrev pub clear-sync-call : Bench → Answer Bench
 clear-sync-call b = [] otherwise with-settings b (with-sync (b .settings) no-sync)
 
 -- Start copies settings to the air, position 0. Refuses 10 slot under way.
+abbrev pub start-refusals : Bool → List Refusal
+start-refusals u = 10 if u ∷ []
+
 abbrev pub start-call : Bench → Answer Bench
 start-call b =
-    10 if under-way b ∷ [] otherwise
+    start-refusals (under-way b) otherwise
     (record { settings = b .settings; running = 1; sending = b .settings; position = 0 })
 
 -- Draw (re buffer, im buffer) writes the next chips, as many as the smaller of buffer length and chips left. Later entries stay (`written`, in
@@ -156,8 +159,8 @@ pub record Draw : Type 0 where
   pub chips : Values
   pub bench : Bench
 
-abbrev pub draw-refusals : Bench → ℕ → ℕ → List Refusal
-draw-refusals b n n′ = 11 if not (under-way b) ∷ 12 if not (eqb n n′) ∷ []
+abbrev pub draw-refusals : Bool → ℕ → ℕ → List Refusal
+draw-refusals u n n′ = 11 if not u ∷ 12 if not (eqb n n′) ∷ []
 
 -- m more chips are out; after the last chip there is no slot
 abbrev pub moved-on : Bench → ℕ → Bench
@@ -172,7 +175,7 @@ moved-on b m =
 abbrev pub draw-call : Bench → ℕ → ℕ → Answer Draw
 draw-call b n n′ =
     let m = min n (slot-length - b .position) in
-    draw-refusals b n n′ otherwise
+    draw-refusals (under-way b) n n′ otherwise
     (record { count = m; chips = in-buffers m (λ i. chip (view (b .sending)) (b .position + i)); bench = moved-on b m })
 
 -- ---- document 01's number and values for each case of the answers

@@ -1,13 +1,14 @@
 // The refusals of the bench's calls: a call's number from document 01, or 0. Where codes are asked for, the gains are lent and not the settings
 // that hold them, which are 37 times as large: the number is that of any settings with these gains and, for load bits, this type.
+ghost use mathlib.Core.Bool.{not};
 ghost use mathlib.Core.Path.{_≡_};
 ghost use Prim.Native.Nat.{_<_, _≤_};
+ghost use lib.Dec.{eqb};
 ghost use Rattle.codes.specs.Range.{any};
 ghost use Rattle.codes.specs.Refusals.{number};
 ghost use Rattle.slot.specs.declared.Settings.{Settings};
 ghost use Rattle.slot.specs.Slot.{bit-count};
 ghost use Rattle.slot.specs.Tables.{view};
-ghost use Rattle.bench.specs.declared.Bench.{Bench};
 ghost use Rattle.bench.specs.BenchCalls.{bad-gain, close-refusals, draw-refusals, load-bits-refusals, open-refusals, set-cell-refusals, set-gain-refusals, set-sync-refusals, some-code};
 ghost use Rattle.bench.specs.Held.{clashes, code-refusals};
 use crate::bits::has_byte_above_1;
@@ -178,9 +179,9 @@ pub fn set_sync(s: Settings, case: u32, frame: u32, half: u32, gp: u32, gs: u32)
     0
 }
 
-// Of any bench with this `running`, for buffers of m and n entries.
+// For buffers of m and n entries, where a slot is under way while `running` is not 0.
 pub fn draw(running: u8, m: usize, n: usize) -> u32
-    ensures { λ r. ⌜ ((b : Bench) → b .running ≡ running → r ≡ number (draw-refusals b m n)) ⌝ }
+    ensures { λ r. ⌜ r ≡ number (draw-refusals (not (eqb running 0)) m n) ⌝ }
 {
     if running == 0 {
         return 11;

@@ -4,7 +4,7 @@ use mathlib.Core.List.{List, [], _∷_}
 use Prim.Native.Nat.{ℕ, suc}
 use lib.IntN.{ℤ}
 use Rattle.codes.specs.declared.CellParameter.{CellParameter}
-use Rattle.codes.specs.Refusals.{Answer, refused, gives, _if_}
+use Rattle.codes.specs.Refusals.{Answer, refused, gives}
 use Rattle.codes.proofs.Refused.{numbered, 0-accepts, ZeroAccepts}
 use Rattle.analyser.specs.Reading.{read-call, read-refusals}
 use Rattle.analyser.specs.Hardening.{harden-call, harden-refusals}
@@ -13,7 +13,7 @@ use Rattle.sync_analyser.specs.Finding.{find-call, find-refusals}
 use Rattle.slot.specs.Tables.{view}
 use Rattle.bench.specs.declared.Bench.{Bench}
 use Rattle.bench.specs.declared.Channel.{Channel}
-use Rattle.bench.specs.BenchCalls.{AnswerAt, refused-at, loads, clear-sync-call, close-call, close-refusals, draw-call, draw-refusals, load-bits-call, load-bits-refusals, load-plan-call, open-call, open-refusals, opened-in-turn, plan-outcome, set-cell-call, set-cell-refusals, set-gain-call, set-gain-refusals, set-sync-call, set-sync-refusals, start-call, under-way}
+use Rattle.bench.specs.BenchCalls.{AnswerAt, refused-at, loads, clear-sync-call, close-call, close-refusals, draw-call, draw-refusals, load-bits-call, load-bits-refusals, load-plan-call, open-call, open-refusals, opened-in-turn, plan-outcome, set-cell-call, set-cell-refusals, set-gain-call, set-gain-refusals, set-sync-call, set-sync-refusals, start-call, start-refusals, under-way}
 use Rattle.bench.specs.Changes.{all-closed, with-settings}
 use Rattle.tdd_bench.specs.PlanResults.{plan-refusal-of}
 
@@ -47,11 +47,11 @@ module _ (b : Bench) where
 
   pub start-0 : ZeroAccepts (start-call b)
   unfolding numbered
-  start-0 = 0-accepts _ (10 if under-way b ∷ []) tt
+  start-0 = 0-accepts _ (start-refusals (under-way b)) tt
 
   pub draw-0 : (n n′ : ℕ) → ZeroAccepts (draw-call b n n′)
   unfolding numbered
-  draw-0 n n′ = 0-accepts _ (draw-refusals b n n′) tt
+  draw-0 n n′ = 0-accepts _ (draw-refusals (under-way b) n n′) tt
 
 -- load plan's numbers are open's
 abbrev PlanZeroAccepts : AnswerAt Bench → Type 0

@@ -1,5 +1,5 @@
 -- `draw` meets its contract: a refusal, or the next chips. Assumes nothing.
-use mathlib.Core.Path.{_≡_, refl, sym, ap, _∙_}
+use mathlib.Core.Path.{_≡_, sym, ap, _∙_}
 use mathlib.Core.List.{List, _++_}
 use mathlib.Core.Logic.{⊎-elim, _≢_}
 use Prim.Native.Nat.{ℕ, _+_, _-_, min}
@@ -17,7 +17,7 @@ use Rattle.complex.proofs.Lists.{length-listed}
 use Rattle.codes.specs.Refusals.{Answer, gives, refused, after, number}
 use Rattle.codes.proofs.Refused.{numbered, passed, accepted, not-accepted}
 use Rattle.bench.specs.declared.Bench.{Bench}
-use Rattle.bench.specs.BenchCalls.{Draw, draw-refusals, moved-on, draw-call, counted}
+use Rattle.bench.specs.BenchCalls.{Draw, under-way, draw-refusals, moved-on, draw-call, counted}
 use Rattle.bench.proofs.Bench.draw.Statement.{statement}
 use Rattle.bench.proofs.Bench.draw.Tie as tie
 
@@ -27,23 +27,23 @@ written-prefix : (f : ℕ → ℤ) (n : ℕ) (d : List ℤ) {new : List ℤ} →
 written-prefix f n d l e = rw (e, l, length-listed f n)
 
 -- the call's answer, where the tests found a number and where they found none
-module _ (b : Bench) (n m : ℕ) {r : ℕ} (e : r ≡ number (draw-refusals b n m)) where
+module _ (b : Bench) (n m : ℕ) {r : ℕ} (e : r ≡ number (draw-refusals (under-way b) n m)) where
   abbrev told : Answer Draw
   told = draw-call b n m
 
   not-drawn : r ≢ 0 → told ≡ refused r
-  not-drawn d = not-accepted _ (draw-refusals b n m) (λ z. d (e ∙ z)) ∙ ap refused (sym e)
+  not-drawn d = not-accepted _ (draw-refusals (under-way b) n m) (λ z. d (e ∙ z)) ∙ ap refused (sym e)
 
   -- where they found none, the lengths are the same
   same-lengths : r ≡ 0 → n ≡ m
   unfolding numbered
-  same-lengths z = eqb-true n m (not-false (eqb n m) (passed (draw-refusals b n m) tt (sym e ∙ z) .1 .0))
+  same-lengths z = eqb-true n m (not-false (eqb n m) (passed (draw-refusals (under-way b) n m) tt (sym e ∙ z) .1 .0))
 
   drawn : (k : ℕ) → k ≡ min n (2560 - b .position) → r ≡ 0
       → told ≡ gives (record { count = k; chips = in-buffers k (λ i. chip (view (b .sending)) (b .position + i)); bench = moved-on b k })
   unfolding numbered
   drawn k q z =
-      accepted _ (draw-refusals b n m) tt (sym e ∙ z)
+      accepted _ (draw-refusals (under-way b) n m) tt (sym e ∙ z)
       ∙ ap (λ (k : ℕ). gives (record { count = k; chips = in-buffers k (λ i. chip (view (b .sending)) (b .position + i)); bench = moved-on b k })) (sym q)
 
 -- how many chips are written
@@ -54,7 +54,7 @@ count c = c .smaller .ensures ∙ ap (min _) (c .before .past .ensures)
 room : (c : tie.After-smaller) → let s = c .before .before .before .before .before .args in let n = c .smaller .result in (length (take n (s .re .now)) ≡ n) × (length (take n (s .im .now)) ≡ n)
 room c =
     let s = c .before .before .before .before .before .args in
-    let e = same-lengths (s .self) (length (s .re .now)) (length (s .im .now)) (c .before .before .before .before .draw .ensures (s .self) refl) (c .before .before .before .if1 .taken) in
+    let e = same-lengths (s .self) (length (s .re .now)) (length (s .im .now)) (c .before .before .before .before .draw .ensures) (c .before .before .before .if1 .taken) in
     (length-take-le _ _ (omega (arith, count c)), length-take-le _ _ (omega (arith, e, count c)))
 
 slice-aggregate-write : tie.Need-slice-aggregate-write
@@ -64,7 +64,7 @@ slice-relend-prefix-write-2 : tie.Need-slice-relend-prefix-write-2
 slice-relend-prefix-write-2 c =
     let r = c .before .before .before .before .before .before in
     let s = r .before .before .before .before .before .args in
-    let e = same-lengths (s .self) (length (s .re .now)) (length (s .im .now)) (r .before .before .before .before .draw .ensures (s .self) refl) (r .before .before .before .if1 .taken) in
+    let e = same-lengths (s .self) (length (s .re .now)) (length (s .im .now)) (r .before .before .before .before .draw .ensures) (r .before .before .before .if1 .taken) in
     omega (arith, e, count r)
 
 slice-aggregate-write-2 : tie.Need-slice-aggregate-write-2
@@ -81,7 +81,7 @@ returns c =
     let b = s .self in
     let n = length (s .re .now) in
     let m = length (s .im .now) in
-    let t = d .draw .ensures b refl in
+    let t = d .draw .ensures in
     ⊎-elim
     (λ w.
     let k = w .3 .result in
