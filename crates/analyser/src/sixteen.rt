@@ -48,7 +48,7 @@ fn signs(cell: CellParameter, k: u32) -> [i32; 16]
     requires { ⌜ cell .0 < 128 ⌝ }
     ensures { λ r. ⌜ r ≡ listed 16 (place-sign (cell .0) k) ⌝ }
 {
-    let row = scrambling::annex_row(cell.0);
+    let row = scrambling::annex_row(cell);
     let mut s = [0i32; 16];
     for i in 0..16 {
         s[i] = sign(row, k, i as u32);

@@ -23,10 +23,11 @@ fn no_row(p: u32) -> u32
     0
 }
 
-// Row p of Annex A.
-pub fn annex_row(p: u32) -> u32
-    ensures { λ r. ⌜ r ≡ packed (row p) ⌝ }
+// Row p of Annex A, for cell parameter p.
+pub fn annex_row(cell: CellParameter) -> u32
+    ensures { λ r. ⌜ r ≡ packed (row (cell .0)) ⌝ }
 {
+    let p = cell.0;
     match p {
         0 => 0b0100010010110100,
         1 => 0b1111101010011100,
@@ -167,7 +168,7 @@ pub fn sign(p: CellParameter, i: u32) -> i32
     if 128 <= p.0 {
         return 0;
     }
-    sign_at(annex_row(p.0), i)
+    sign_at(annex_row(p), i)
 }
 
 // Element i, from 0, of the complex scrambling code; 0 outside its range.

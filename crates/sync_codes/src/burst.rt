@@ -3,9 +3,10 @@ ghost use mathlib.Core.Path.{_≡_};
 ghost use mathlib.Core.Bool.{cond};
 ghost use Prim.Native.Nat.{_<_};
 ghost use lib.Dec.{leb};
-ghost use Rattle.complex.specs.Arithmetic.{real, 𝟏, 𝐣, _⊗_};
+ghost use Rattle.complex.specs.Arithmetic.{real, _⊗_};
+ghost use Rattle.complex.specs.Fits.{Both};
 ghost use Rattle.codes.specs.Signs.{minus-if};
-ghost use Rattle.sync_codes.specs.Allocation.{allocation, case-1, case-2, code-set, is-frame-and-half, one-or-two, row as row-of, signed, silent, with-unit};
+ghost use Rattle.sync_codes.specs.Allocation.{allocation, case-1, case-2, code-set, is-frame-and-half, one-or-two, row as row-of, signed, silent};
 ghost use Rattle.sync_codes.specs.Burst.{burst-start};
 use crate::Allocated;
 use crate::ModulatedCode;
@@ -43,9 +44,8 @@ pub struct CodeSet {
     pub d: u32,
 }
 
-// Code set n of the four.
+// Code set n of the four; codes 0 for any other number.
 pub fn code_set(n: u32) -> CodeSet
-    requires { ⌜ (0 < n) × (n < 5) ⌝ }
     ensures { λ r. ⌜ r ≡ code-set n ⌝ }
 {
     match n {
@@ -56,53 +56,53 @@ pub fn code_set(n: u32) -> CodeSet
             d: 14,
         },
         3 => CodeSet { a: 0, b: 6, d: 12 },
-        _ => CodeSet { a: 4, b: 8, d: 15 },
+        4 => CodeSet { a: 4, b: 8, d: 15 },
+        _ => CodeSet { a: 0, b: 0, d: 0 },
     }
 }
 
-// The unit 1, or j where imaginary; its negative where negative.
-fn unit(imaginary: bool, negative: bool) -> Complex
-    ensures { λ r. ⌜ r ≡ real (minus-if negative) ⊗ cond imaginary 𝐣 𝟏 ⌝ }
+// The unit u, or its negative.
+fn with_sign(u: Complex, negative: bool) -> Complex
+    requires { ⌜ Both 1 u ⌝ }
+    ensures { λ r. ⌜ r ≡ real (minus-if negative) ⊗ u ⌝ }
 {
-    if imaginary {
-        if negative {
-            Complex { re: 0, im: -1 }
-        } else {
-            Complex { re: 0, im: 1 }
-        }
-    } else {
-        if negative {
-            Complex { re: -1, im: 0 }
-        } else {
-            Complex { re: 1, im: 0 }
-        }
-    }
+    if negative { u.rotated(2) } else { u }
 }
 
-// A pair of codes and a marker, each with its unit.
-fn three(a: u32, u: Complex, b: u32, v: Complex, d: u32, w: Complex) -> Allocated
-    ensures { λ r. ⌜ r ≡ record { first = with-unit a u; second = with-unit b v; marker = with-unit d w } ⌝ }
+// The pair (a, b) with unit u and marker d; the flags say which of the pair and whether the marker is negative.
+fn three(a: u32, b: u32, u: Complex, d: u32, first: bool, second: bool, marker: bool) -> Allocated
+    requires { ⌜ Both 1 u ⌝ }
+    ensures { λ r. ⌜ r ≡ signed (record { first = a; second = b; unit = u; marker = d }) (minus-if first) (minus-if second) (minus-if marker) ⌝ }
 {
+    let one = Complex { re: 1, im: 0 };
     Allocated {
-        first: ModulatedCode { code: a, unit: u },
-        second: ModulatedCode { code: b, unit: v },
-        marker: ModulatedCode { code: d, unit: w },
+        first: ModulatedCode {
+            code: a,
+            unit: with_sign(u, first),
+        },
+        second: ModulatedCode {
+            code: b,
+            unit: with_sign(u, second),
+        },
+        marker: ModulatedCode {
+            code: d,
+            unit: with_sign(one, marker),
+        },
     }
 }
 
-// A row of the tables for a code set; the flags say which of the pair and whether the marker is negative.
+// A row of the tables for a code set.
 fn arranged(row: u32, set: CodeSet, first: bool, second: bool, marker: bool) -> Allocated
     requires { ⌜ row < 4 ⌝ }
     ensures { λ r. ⌜ r ≡ signed (row-of row set) (minus-if first) (minus-if second) (minus-if marker) ⌝ }
 {
-    let u = unit(row != 0, first);
-    let v = unit(row != 0, second);
-    let w = unit(false, marker);
+    let one = Complex { re: 1, im: 0 };
+    let j = Complex { re: 0, im: 1 };
     match row {
-        0 => three(set.a, u, set.b, v, set.d, w),
-        1 => three(set.a, u, set.b, v, set.d, w),
-        2 => three(set.a, u, set.d, v, set.b, w),
-        _ => three(set.b, u, set.d, v, set.a, w),
+        0 => three(set.a, set.b, one, set.d, first, second, marker),
+        1 => three(set.a, set.b, j, set.d, first, second, marker),
+        2 => three(set.a, set.d, j, set.b, first, second, marker),
+        _ => three(set.b, set.d, j, set.a, first, second, marker),
     }
 }
 

@@ -14,7 +14,7 @@ use Rattle.codes.proofs.scrambling.sign.Tie as tie
 returns : tie.Need-returns
 returns c =
     let s = c .before .before .args in
-    sym (v-at (s .p .0) (s .i) ∙ no-row-at (s .p .0) (s .i) (c .if1 .taken))
+    sym (v-at (s .p .0) (s .i) ∙ no-row-at (s .p .0) (s .i) (omega arith))
 
 annex-row-requires : tie.Need-annex-row-requires
 annex-row-requires c κs = search needs

@@ -1,0 +1,21 @@
+-- `three` meets its contract: the marker's unit is 1 or -1. Assumes nothing.
+use mathlib.Core.Path.{_∙_}
+use borrow.Author.Needs.{needs}
+use Rattle.complex.specs.Arithmetic.{real, 𝟏}
+use Rattle.complex.proofs.Ring.{⊗-𝟏}
+use Rattle.codes.specs.Signs.{minus-if}
+use Rattle.sync_codes.specs.Allocation.{signed, with-unit}
+use Rattle.sync_codes.proofs.burst.three.Statement.{statement}
+use Rattle.sync_codes.proofs.burst.three.Tie as tie
+
+returns : tie.Need-returns
+unfolding signed 𝟏
+returns c =
+    let s = c .before .before .before .args in
+    let p = c .before .before .with-sign .ensures in
+    let q = c .before .with-sign2 .ensures in
+    let r = c .with-sign3 .ensures ∙ ⊗-𝟏 (real (minus-if (s .marker))) in
+    λ i. record { first = with-unit (s .a) (p i); second = with-unit (s .b) (q i); marker = with-unit (s .d) (r i) }
+
+pub three-spec : {M : Type 1} → statement M
+three-spec = tie.close (tie.spec (λ c κs. search needs) (λ c κs. search needs) (λ c κs. search needs) returns)
