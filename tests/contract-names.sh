@@ -1,36 +1,47 @@
 #!/bin/sh
-# A run (crate demands, specs/Runs) speaks of the bench's functions by name, and no theorem can say that it names them all. This test does: every public
-# function of the bench is a case of a run, taken by what its own contract ensures (`Learnt`; `fresh` is what a run begins with), and has its field in `Asks`,
-# of which `asks-nothing` says that it asks nothing: no public function has a `requires`.
+# A run (crate demands, specs/Runs) speaks of the bench's functions by name. What no theorem can say of them is tested here: every public function of `Bench`
+# is a case of a run, taken by what its own contract ensures (`Learnt`; `fresh` is what a run begins with), and none has a `requires`, nor has a function of the
+# analyser of which the theorems speak.
 # With an argument, that folder is tested in place of this repository.
 set -eu
 root=${1:-$(cd "$(dirname "$0")/.." && pwd)}
 runs=$root/crates/demands/specs/Runs.antt
 plan=$root/crates/demands/specs/LoadPlanReads.antt
-code=$root/crates/bench/src/lib.rt
 
 fail() {
     echo "contract-names: $1" >&2
     exit 1
 }
 
-# compare WHAT FOUND DUE
-compare() {
-    [ "$2" = "$3" ] || fail "$1 are
-$2
-and should be
-$3"
+# The public functions of a crate that a host calls: the methods of `Bench`, in whatever file, and functions at the root; one a line
+public() {
+    awk '
+        FNR == 1 { inside = 0; at_root = FILENAME ~ /\/lib\.rt$/ }
+        /^impl Bench / { inside = 1 }
+        /^}/ { inside = 0 }
+        /^ *pub (extern "C" )?fn / && (inside || at_root && /^pub/) { sub(/^.*fn /, ""); sub(/[^A-Za-z0-9_].*/, ""); print }' "$root/crates/$1/src/"*.rt | sort
 }
 
-# The contracts that a part of Runs names, one a line: named FIRST-LINE WHAT, the part ending with an empty line
-named() {
-    awk -v first="$1" 'index($0, first) == 1 { inside = 1 } /^$/ { inside = 0 } inside' "$runs" | grep -o "[a-z-]*-contract\.$2" | sed 's/-contract.*//' | sort
+# The contracts that a part of Runs takes, one a line: taken FIRST-WORDS, the part ending with an empty line
+taken() {
+    awk -v first="$1" 'index($0, first) == 1 { inside = 1 } /^$/ { inside = 0 } inside' "$runs" | grep -o '[a-z0-9-]*-contract\.Learnt' | sed 's/-contract.*//'
 }
 
-functions=$(sed -n 's/^    pub fn \([a-z_]*\)(.*/\1/p' "$code" | sort)
+# The text from a public function's name to its body: head_of CRATE FUNCTION
+head_of() {
+    awk -v name="$2" '
+        index($0, "pub fn " name "(") { inside = 1 }
+        /^ *[{]/ { inside = 0 }
+        inside' "$root/crates/$1/src/"*.rt
+}
+
+functions=$(public bench)
 due=$(echo "$functions" | tr _ - | sort)
-compare "the functions whose contracts make a run" "$({ named 'pub data Ran ' Learnt; named 'pub record Run ' Learnt; } | sort)" "$due"
-compare "the functions of which Asks says what they ask" "$(named 'pub record Asks ' Asked)" "$due"
+found=$({ taken 'pub data Ran '; taken 'pub record Run '; } | sort)
+[ "$found" = "$due" ] || fail "the functions whose contracts make a run are
+$found
+and should be
+$due"
 for function in $functions; do
     name=$(echo "$function" | tr _ -)
     case $function in
@@ -45,3 +56,16 @@ for function in $functions; do
         END { exit !found }' "$runs" || fail "the case by-$name in $runs does not take what $function ensures"
     echo "contract-names: $function is a case of a run by its own contract"
 done
+
+# asks_nothing CRATE FUNCTION
+asks_nothing() {
+    [ -n "$(head_of "$1" "$2")" ] || fail "crate $1 has no public function $2"
+    ! head_of "$1" "$2" | grep -q requires || fail "$2 of crate $1 has a 'requires', and should refuse instead"
+}
+for function in $functions; do
+    asks_nothing bench "$function"
+done
+asks_nothing analyser read
+asks_nothing analyser harden
+asks_nothing sync_analyser read_sync
+echo "contract-names: none of them, nor read, harden and read_sync, has a requires"

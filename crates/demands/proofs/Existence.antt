@@ -1,4 +1,4 @@
--- Every list of calls has a run, so that what is said of every run is said of every list; and no function asks anything of its caller. Assumes nothing.
+-- Every list of calls has a run, so that what is said of every run is said of every list; and so have the calls of the analyser. Assumes nothing.
 use Prim.Native.Nat.{ℕ}
 use mathlib.Core.Path.{_≡_, refl}
 use mathlib.Core.List.{List, [], _∷_}
@@ -29,7 +29,7 @@ use Rattle.bench.specs.declared.DrawAnswer.{DrawAnswer}
 use Rattle.bench.specs.declared.DrawAnswer.the-variants.{Drew, Refused as NotDrawn}
 use Rattle.bench.specs.BenchCalls.{fresh, AnswerAt, refused-at, loads, told-call, told-plan, told-draw, set-cell-call, open-call, load-plan-call, plan-outcome, plan-left-by, close-call, set-gain-call, load-bits-call, set-sync-call, clear-sync-call, start-call, draw-call, counted, left-by}
 use Rattle.demands.specs.Calls.{Call, set-cell, open-code, load-plan, close, set-gain, load-bits, set-sync, clear-sync, start, draw, Step}
-use Rattle.demands.specs.Runs.{Ran, by-set-cell, by-open, by-load-plan, by-load-records, by-close, by-set-gain, by-load-bits, by-set-sync, by-clear-sync, by-start, by-draw, RunFrom, ended, _then_, Run, Asks}
+use Rattle.demands.specs.Runs.{Ran, by-set-cell, by-open, by-load-plan, by-load-records, by-close, by-set-gain, by-load-bits, by-set-sync, by-clear-sync, by-start, by-draw, RunFrom, ended, _then_, Run}
 use Rattle.demands.specs.AnalyserRuns.{Output, RanRead, by-read, RanHarden, by-harden, RanReadSync, by-read-sync}
 
 -- ---- a result that gives an answer
@@ -74,7 +74,7 @@ module _ (b : Bench) where
   abbrev plan-result : AnswerAt Bench → Planned
   plan-result a = record { answer = plan-case (plan-outcome a) .case; bench = plan-left-by a b }
 
-  pub can-run : (c : Call (List ℤ)) → (y : Step Bench) × Ran b c y
+  can-run : (c : Call (List ℤ)) → (y : Step Bench) × Ran b c y
   can-run (set-cell p t) = let a = set-cell-call b (record { 0 = p }) t in (_, by-set-cell p t (result a) (b, (record { 0 = p }, (t, tt))) (call-case (outcome a) .is, refl))
   can-run (open-code Q k g) = let a = open-call b Q k g in (_, by-open Q k g (result a) (b, (Q, (k, (g, tt)))) (call-case (outcome a) .is, refl))
   can-run (load-plan plan) =
@@ -120,21 +120,12 @@ runs-exist calls = let x = can-run-all fresh calls in (record { first = fresh; f
 -- ---- the analyser, for any buffers
 pub reads-exist : (p Q k : ℕ) (field out : Values) → (y : Output Values) × RanRead p Q k field out y
 reads-exist p Q k field out =
-    let a = read-call p Q k (field .re) (field .im) (length (out .re)) (length (out .im)) in (
+    let a = read-call p Q k (field .re) (field .im) (length (out .re)) (length (out .im)) in
+    let re = after a (out .re) (λ y. written (y .re) (out .re)) in
+    let im = after a (out .im) (λ y. written (y .im) (out .im)) in (
       _,
-      by-read ([], ([], ([], ([], tt)))) (lent (field .re)) (lent (field .im)) (lent (out .re)) (lent (out .im)) (read-case (outcome a) .case) (
-        record { 0 = p },
-        (
-          Q,
-          (
-            k,
-            (
-              lent (field .re),
-              (lent (field .im), (lent (after a (out .re) (λ y. written (y .re) (out .re))), (lent (after a (out .im) (λ y. written (y .im) (out .im))), tt))),
-            ),
-          ),
-        ),
-      )
+      by-read ([], ([], ([], ([], tt)))) (lent (field .re)) (lent (field .im)) (lent (out .re)) (lent (out .im)) (read-case (outcome a) .case)
+          (record { 0 = p }, (Q, (k, (lent (field .re), (lent (field .im), (lent re, (lent im, tt)))))))
           (read-case (outcome a) .is, (refl, refl)),
     )
 
@@ -154,21 +145,3 @@ sync-reads-exist case chips =
       by-read-sync ([], ([], tt)) (lent (chips .re)) (lent (chips .im)) (sync-case a .case)
           (case, (lent (chips .re), (lent (chips .im), tt))) (sync-case a .is),
     )
-
--- ---- Demand 1: "for any input": none of the bench's functions has a `requires`
-pub asks-nothing : (b : Bench) → Asks b
-asks-nothing b =
-    record {
-      fresh = tt;
-      set-cell = λ p t. tt;
-      open-code = λ Q k g. tt;
-      load-plan = λ κs plan. tt;
-      load-records = λ plan count. tt;
-      close = λ Q k. tt;
-      set-gain = λ Q k g. tt;
-      load-bits = λ κs Q k bits. tt;
-      set-sync = λ case frame half gP gS. tt;
-      clear-sync = tt;
-      start = tt;
-      draw = λ κs re im. tt;
-    }

@@ -110,5 +110,5 @@ module _ (s : Setup) (v : Valid s) (Q k : ℕ) (c : Channel) (e : s .channel Q k
           ∙ sym (getD-take (2 * N) (drop (2 * (field-before s f / Q)) (c .bits)) b 0 g ∙ getD-drop (2 * (field-before s f / Q)) (c .bits) b 0))
 
 -- a slot without sync has no burst chip anywhere
-pub no-sync : (s : Setup) → s .sync ≡ none → (x n : ℕ) → no-burst s x n ≡ true
-no-sync s e x n = each-all n _ (λ i l. rw e)
+pub no-burst-anywhere : (s : Setup) → s .sync ≡ none → (x n : ℕ) → no-burst s x n ≡ true
+no-burst-anywhere s e x n = each-all n _ (λ i l. rw e)

@@ -16,11 +16,14 @@ use Rattle.complex.proofs.Lists.{length-listed, listed-++}
 use Rattle.codes.specs.Refusals.{Answer, refused, gives, _if_, _otherwise_}
 use Rattle.slot.specs.Setup.{Setup}
 use Rattle.slot.specs.Slot.{slot-length, chip}
+use Rattle.bench.specs.declared.Bench.{Bench}
 use Rattle.bench.specs.BenchCalls.{set-cell-refusals, open-refusals, AnswerAt, refused-at, loads, close-refusals, set-gain-refusals, load-bits-refusals, set-sync-refusals}
 use Rattle.demands.specs.Calls.{Call, set-cell, open-code, load-plan, close, set-gain, load-bits, set-sync, clear-sync, start, draw, refused-by, Step}
 use Rattle.demands.specs.Reference.{Reference, cell-set, opened, closed, gain-set, bits-loaded, with-sync, plan-loaded, with-settings, by-entry, by-plan, drawn, reference-step, fed}
 use Rattle.demands.specs.Slots.{Slot, extended, is-start, noted, InOrder, NothingLeft}
+use Rattle.demands.specs.Runs.{Ran}
 use Rattle.demands.specs.Valid.{Valid, ValidReference}
+use Rattle.demands.proofs.Steps.{reference-of, seen, ValidBench, ran-steps}
 
 -- ---- what holds of each accepted start
 pub record Good (x : Slot) : Type 0 where
@@ -111,7 +114,7 @@ draw-kept s (some c) n (x ∷ past) h a b = go (eqb a b) refl
     go false e = rw e h
     go true e = rw e (more-drawn s c n (min a (slot-length - n)) x past (h .0) (h .1))
 
-pub kept : (r : Reference) → ValidReference r → (past : List Slot) → Noted r past
+kept : (r : Reference) → ValidReference r → (past : List Slot) → Noted r past
     → (c : Call (List ℤ)) → Kept past (is-start c) (reference-step r (fed c))
 unfolding reference-step fed
 kept r v past h (set-cell p t) = entry-kept r past h (set-cell-refusals p t otherwise cell-set p t)
@@ -127,6 +130,10 @@ kept r v past h (set-sync case frame half gP gS) =
 kept r v past h clear-sync = other-settings r (with-sync (r .settings) none) past h
 kept r v past h start = start-kept (r .settings) (r .sending) (r .sent) v past h
 kept r v past h (draw re im) = draw-kept (r .settings) (r .sending) (r .sent) past h (length re) (length im)
+
+-- of a run
+pub kept-by : (b : Bench) → ValidBench b → (past : List Slot) → Noted (reference-of b) past → {c : Call (List ℤ)} {y : Step Bench} → Ran b c y → Kept past (is-start c) (seen y)
+kept-by b v past h {c} r = subst (Kept past (is-start c)) (ran-steps b v r .same) (kept (reference-of b) (v .model) past h c)
 
 -- ---- refusal 11
 -- as many chips are drawn as the tally says

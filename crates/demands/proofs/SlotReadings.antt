@@ -33,7 +33,7 @@ use Rattle.orthogonality.proofs.DataReadings.{own-data, unrelated-data}
 
 -- ---- what the data of a field reads
 module _ (s : Setup) (v : Valid s) (f : Field) (Q k : ℕ) where
-  pub is-code-of : (c : Channel) → s .channel Q k ≡ some c → is-code Q k ≡ true
+  is-code-of : (c : Channel) → s .channel Q k ≡ some c → is-code Q k ≡ true
   is-code-of c e = v .code Q k (ap is-some e)
 
   pub own-of-data : (c : Channel) → s .channel Q k ≡ some c → in-buffers (reading-count s f Q) (of-data s f Q k) ≡ own-readings s f Q c

@@ -1,7 +1,7 @@
 -- Demands 2 and 3 of every run of the functions: a list of calls of any length and with any arguments, refused ones included, from a fresh bench. Every list
 -- has a run (`runs-exist`). Assumes nothing.
 use Prim.Native.Nat.{ℕ, _+_, _*_, _≤_}
-use mathlib.Core.Path.{_≡_, ap, ap₂, _∙_}
+use mathlib.Core.Path.{_≡_, sym, ap, ap₂, _∙_}
 use mathlib.Core.Logic.{_↔_}
 use mathlib.Core.Bool.{true, false}
 use mathlib.Core.List.{List, List·Memᴰ, map}
@@ -21,27 +21,34 @@ use Rattle.sync_analyser.specs.declared.Candidate.{Candidate}
 use Rattle.sync_analyser.specs.SyncReading.{of-group}
 use Rattle.bench.specs.declared.Bench.{Bench}
 use Rattle.demands.specs.Calls.{draw, refused-by, Step}
-use Rattle.demands.specs.Reference.{Reference, fresh-reference, fed, told-by}
+use Rattle.demands.specs.Reference.{Reference, fresh-reference, fed, told-by, left-after}
 use Rattle.demands.specs.Runs.{Ran, Run, told-in, left-in}
-use Rattle.demands.specs.AnalyserRuns.{Output, RanRead, RanReadSync, wrote}
+use Rattle.demands.specs.AnalyserRuns.{Output, RanReadSync, wrote}
 use Rattle.demands.specs.Slots.{Slot, slots, InOrder, NothingLeft}
-use Rattle.demands.specs.Fields.{Field, field-length, field-start, Drawn, chips-from, reading-count, FieldRead, own-readings, unrelated, zero-readings, no-burst, burst-field, quiet-field, BurstAdds, power-of-16, power-due, first-values, FieldHardened, HardBits, AllHardBits}
+use Rattle.demands.specs.Fields.{Field, field-length, field-start, Drawn, DrawnWhole, chips-from, drawn-field, reading-count, FieldRead, own-readings, unrelated, zero-readings, no-burst, burst-field, quiet-field, BurstAdds, power-of-16, power-due, first-values, FieldHardened, HardBits, AllHardBits}
 use Rattle.demands.specs.Valid.{Valid}
 use Rattle.demands.proofs.Steps.{reference-of, ValidBench, ran-steps}
 use Rattle.demands.proofs.BurstDrawn.{slot-burst}
 use Rattle.demands.proofs.Contracts.{read-meets, harden-meets, read-sync-meets}
 use Rattle.demands.proofs.FieldReadings.{of-data, of-burst}
-use Rattle.demands.proofs.HardBits.{no-sync, own-bits, all-bits}
+use Rattle.demands.proofs.HardBits.{no-burst-anywhere, own-bits, all-bits}
 use Rattle.demands.proofs.History.{Good, all-at, draw-11}
 use Rattle.demands.proofs.Power.{slot-power}
-use Rattle.demands.proofs.Runs.{run-told, run-valid, run-noted, run-good}
+use Rattle.demands.proofs.Runs.{first-same, run-holds, run-noted, run-good}
 use Rattle.demands.proofs.SlotReadings.{own-of-data, zero-of-data, quiet-reads, burst-reads, none-too-large, own-reads, zero-reads, sum-reads}
 
 module _ (run : Run) where
   -- Demand 3: "the refusals, counts and drawn chips are those of document 01's ledger". "At every call of the list the bench gives the ledger's number, place
   -- and count, or none where the ledger has none, and an accepted draw leaves the ledger's m chips in the first m entries of its two buffers."
   pub answers : told-in (run .steps) ≡ told-by fresh-reference (map fed (run .calls))
-  answers = run-told run
+  answers = run-holds run .told ∙ ap (λ (r : Reference). told-by r (map fed (run .calls))) (first-same run)
+
+  -- the bench that it leaves stands for the reference model that the calls leave, and is one that calls can make
+  pub reached : left-after fresh-reference (map fed (run .calls)) ≡ reference-of (left-in run)
+  reached = ap (λ (r : Reference). left-after r (map fed (run .calls))) (sym (first-same run)) ∙ run-holds run .left
+
+  pub bench-valid : ValidBench (left-in run)
+  bench-valid = run-holds run .valid
 
   -- "A draw is refused 11 exactly when no start was accepted yet or all 2,560 chips of the last accepted one are out."
   pub refused-11 : (re im : List ℤ) (y : Step Bench) → Ran (left-in run) (draw re im) y → (y .told ≡ refused-by 11) ↔ NothingLeft (slots run)
@@ -49,12 +56,8 @@ module _ (run : Run) where
   refused-11 re im y h =
       let b = left-in run in
       let r = reference-of b in
-      rw (← (ap (λ (z : Step Reference). z .told) (ran-steps b (run-valid run) h .same)))
-      (draw-11 (r .settings) (r .sending) (r .sent) (run-valid run .model) (slots run) (run-noted run) (length re) (length im))
-
-  -- the bench that it leaves is one that the calls can make
-  pub bench-valid : ValidBench (left-in run)
-  bench-valid = run-valid run
+      rw (← (ap (λ (z : Step Reference). z .told) (ran-steps b bench-valid h .same)))
+      (draw-11 (r .settings) (r .sending) (r .sent) (bench-valid .model) (slots run) (run-noted run) (length re) (length im))
 
   -- ---- every accepted start, whatever calls fall between
   module _ (slot : Slot) (i : List·Memᴰ slot (slots run)) where
@@ -89,40 +92,39 @@ module _ (run : Run) where
     burst-drawn y e nothing drawn t h = read-sync-meets h ∙ slot-burst slot good y e nothing drawn
 
     -- ---- "When a data field drawn whole is read with that start's cell parameter":
-    module _ (f : Field) (Q k : ℕ) (x : FieldRead slot f Q k) where
+    module _ (f : Field) (whole : DrawnWhole slot f) (Q k : ℕ) (x : FieldRead s f Q k (drawn-field slot f)) where
       -- "each reading of a code open at that start is its spreading factor times its gain times its own symbol", in a field into which no burst falls
       pub own-reading : (c : Channel) → s .channel Q k ≡ some c → no-burst s (field-start s f) (field-length s f) ≡ true → x .read ≡ wrote (own-readings s f Q c) (x .out)
-      own-reading c e n = read-meets (x .ran) (own-reads slot good f (x .whole) Q k (x .out) (x .suffice) c e n)
+      own-reading c e n = read-meets (x .ran) (own-reads slot good f whole Q k (x .out) (x .suffice) c e n)
 
       -- "and each of a code unrelated to all of those is zero, whatever the others send"
       pub unrelated-reading : is-code Q k ≡ true → unrelated s Q k ≡ true → no-burst s (field-start s f) (field-length s f) ≡ true
           → x .read ≡ wrote (zero-readings s f Q) (x .out)
-      unrelated-reading c e n = read-meets (x .ran) (zero-reads slot good f (x .whole) Q k (x .out) (x .suffice) c e n)
+      unrelated-reading c e n = read-meets (x .ran) (zero-reads slot good f whole Q k (x .out) (x .suffice) c e n)
 
       -- "A sync burst adds exactly its own reading.": for every code, related or not
-      pub burst-adds : is-code Q k ≡ true → (quiet burst : Output Values) → RanRead (s .cell) Q k (quiet-field s f) (x .out) quiet
-          → RanRead (s .cell) Q k (burst-field s f) (x .out) burst → BurstAdds slot f Q k x quiet burst
-      burst-adds c quiet burst ran-quiet ran-burst =
+      pub burst-adds : is-code Q k ≡ true → (quiet : FieldRead s f Q k (quiet-field s f)) (burst : FieldRead s f Q k (burst-field s f))
+          → BurstAdds s f Q k (drawn-field slot f) x quiet burst
+      burst-adds c quiet burst =
           record {
             others = in-buffers (reading-count s f Q) (of-data s f Q k);
             own = in-buffers (reading-count s f Q) (of-burst s f Q k);
-            others-is = read-meets ran-quiet (quiet-reads s (good .valid) f Q k c (x .out) (x .suffice));
-            own-is = read-meets ran-burst (burst-reads s (good .valid) f Q k c (x .out) (x .suffice));
-            sum = read-meets (x .ran) (sum-reads slot good f (x .whole) Q k (x .out) (x .suffice) c);
+            others-is = read-meets (quiet .ran) (quiet-reads s (good .valid) f Q k c (quiet .out) (quiet .suffice));
+            own-is = read-meets (burst .ran) (burst-reads s (good .valid) f Q k c (burst .out) (burst .suffice));
+            sum = read-meets (x .ran) (sum-reads slot good f whole Q k (x .out) (x .suffice) c);
             open-code = own-of-data s (good .valid) f Q k;
             unrelated-code = zero-of-data s (good .valid) f Q k c;
           }
 
     -- ---- Demand 2: "hardening the readings of a channel in a slot without sync yields the bits it held when that slot started"
-    module _ (Q k : ℕ) (c : Channel) (quiet : s .sync ≡ none) (e : s .channel Q k ≡ some c) where
-      pub hard-bits : (f : Field) (x : FieldHardened slot f Q k) → HardBits slot f Q k c x
-      hard-bits f x =
+    module _ (Q k : ℕ) (c : Channel) (no-sync : s .sync ≡ none) (e : s .channel Q k ≡ some c) where
+      pub hard-bits : (f : Field) → DrawnWhole slot f → (x : FieldHardened s f Q k (drawn-field slot f)) → HardBits s f Q k (drawn-field slot f) c x
+      hard-bits f whole x =
           let N = reading-count s f Q in
-          let o = own-readings s f Q c in
           let out = x .field .out in
-          let r = own-reading f Q k (x .field) c e (no-sync s quiet (field-start s f) (field-length s f)) in
+          let r = own-reading f whole Q k (x .field) c e (no-burst-anywhere s no-sync (field-start s f) (field-length s f)) in
           -- the readings that are hardened
-          let first : first-values N (x .field .read .left) ≡ o =
+          let first : first-values N (x .field .read .left) ≡ own-readings s f Q c =
           ap (λ (y : Output Values). first-values N (y .left)) r
           ∙ ap₂ (λ (re im : List ℤ). record { re = re; im = im }) (take-written _ (out .re) N) (take-written _ (out .im) N) in
           record {
@@ -132,5 +134,5 @@ module _ (run : Run) where
           }
 
       -- of both fields
-      pub all-hard-bits : (x : (f : Field) → FieldHardened slot f Q k) → AllHardBits slot Q k c x
-      all-hard-bits x = record { each-field = λ f. hard-bits f (x f); all = all-bits s (good .valid) Q k c e }
+      pub all-hard-bits : ((f : Field) → DrawnWhole slot f) → (x : (f : Field) → FieldHardened s f Q k (drawn-field slot f)) → AllHardBits s Q k (drawn-field slot) c x
+      all-hard-bits whole x = record { each-field = λ f. hard-bits f (whole f) (x f); all = all-bits s (good .valid) Q k c e }

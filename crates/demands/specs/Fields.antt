@@ -79,14 +79,13 @@ pub record Suffice (s : Setup) (f : Field) (Q : ℕ) (out : Values) : Type 0 whe
   pub re : reading-count s f Q ≤ length (out .re)
   pub im : reading-count s f Q ≤ length (out .im)
 
--- A field drawn whole, read: "It is read from two buffers that hold them in order, for any code, with answer buffers that suffice", and "with that
--- start's cell parameter". `read` is what the function read gave and left there.
-pub record FieldRead (slot : Slot) (f : Field) (Q k : ℕ) : Type 0 where
-  pub whole : DrawnWhole slot f
+-- The chips of a field read: "It is read from two buffers that hold them in order, for any code, with answer buffers that suffice", and "with that start's
+-- cell parameter". `read` is what the function read gave and left there.
+pub record FieldRead (s : Setup) (f : Field) (Q k : ℕ) (chips : Values) : Type 0 where
   pub out : Values
-  pub suffice : Suffice (slot .settings) f Q out
+  pub suffice : Suffice s f Q out
   pub read : Output Values
-  pub ran : RanRead (slot .settings .cell) Q k (drawn-field slot f) out read
+  pub ran : RanRead (s .cell) Q k chips out read
 
 -- "A code's own symbols are those of that field, the n-th for reading n."
 abbrev pub own-symbol : Setup → Field → ℕ → Channel → ℕ → Complex
@@ -125,17 +124,17 @@ quiet-field s f = in-buffers (field-length s f) (λ q. chip (with-sync s none) (
 abbrev pub added : ℕ → Values → Values → Values
 added n v w = in-buffers n (λ i. value (v .re) (v .im) i ⊕ value (w .re) (w .im) i)
 
--- "A sync burst adds exactly its own reading.", which "is what the same read gives for that field with the burst's chips alone": quiet and burst are what
--- read gave and left for the field without sync, and for the burst alone, with the same answer buffers
-pub record BurstAdds (slot : Slot) (f : Field) (Q k : ℕ) (x : FieldRead slot f Q k) (quiet burst : Output Values) : Type 0 where
+-- "A sync burst adds exactly its own reading.", which "is what the same read gives for that field with the burst's chips alone": x is the field read as it was
+-- drawn, quiet without sync, burst with the burst's chips alone
+pub record BurstAdds (s : Setup) (f : Field) (Q k : ℕ) (drawn : Values) (x : FieldRead s f Q k drawn) (quiet : FieldRead s f Q k (quiet-field s f)) (burst : FieldRead s f Q k (burst-field s f)) : Type 0 where
   pub others : Values
   pub own : Values
-  pub others-is : quiet ≡ wrote others (x .out)
-  pub own-is : burst ≡ wrote own (x .out)
-  pub sum : x .read ≡ wrote (added (reading-count (slot .settings) f Q) others own) (x .out)
+  pub others-is : quiet .read ≡ wrote others (quiet .out)
+  pub own-is : burst .read ≡ wrote own (burst .out)
+  pub sum : x .read ≡ wrote (added (reading-count s f Q) others own) (x .out)
   -- where the code is open, and where it is unrelated to all open ones
-  pub open-code : (c : Channel) → slot .settings .channel Q k ≡ some c → others ≡ own-readings (slot .settings) f Q c
-  pub unrelated-code : unrelated (slot .settings) Q k ≡ true → others ≡ zero-readings (slot .settings) f Q
+  pub open-code : (c : Channel) → s .channel Q k ≡ some c → others ≡ own-readings s f Q c
+  pub unrelated-code : unrelated s Q k ≡ true → others ≡ zero-readings s f Q
 
 -- ---- power, hard bits
 -- "the squared components of each 16 data chips add up to": those from chip x of the slot on, as they were drawn. "A stretch of 16 data chips counts
@@ -155,21 +154,21 @@ field-bits s f Q c = part (2 * (field-before s f / Q)) (2 * reading-count s f Q)
 abbrev pub first-values : ℕ → Values → Values
 first-values n v = record { re = take n (v .re); im = take n (v .im) }
 
--- A field read, and its readings hardened into a byte buffer that suffices: `hardened` is what the function harden gave and left there.
-pub record FieldHardened (slot : Slot) (f : Field) (Q k : ℕ) : Type 0 where
-  pub field : FieldRead slot f Q k
+-- The chips of a field read, and the readings hardened into a byte buffer that suffices: `hardened` is what the function harden gave and left there.
+pub record FieldHardened (s : Setup) (f : Field) (Q k : ℕ) (chips : Values) : Type 0 where
+  pub field : FieldRead s f Q k chips
   pub bits : List ℕ
-  pub suffice : 2 * reading-count (slot .settings) f Q ≤ length bits
+  pub suffice : 2 * reading-count s f Q ≤ length bits
   pub hardened : Output (List ℕ)
-  pub ran : RanHarden (first-values (reading-count (slot .settings) f Q) (field .read .left)) bits hardened
+  pub ran : RanHarden (first-values (reading-count s f Q) (field .read .left)) bits hardened
 
 -- "hardening the readings of a channel .. yields the bits it held when that slot started": read wrote the channel's own readings, and harden the bits that
 -- the field sends
-pub record HardBits (slot : Slot) (f : Field) (Q k : ℕ) (c : Channel) (x : FieldHardened slot f Q k) : Type 0 where
-  pub readings : x .field .read ≡ wrote (own-readings (slot .settings) f Q c) (x .field .out)
-  pub hard : x .hardened ≡ wrote-bits (field-bits (slot .settings) f Q c) (x .bits)
+pub record HardBits (s : Setup) (f : Field) (Q k : ℕ) (chips : Values) (c : Channel) (x : FieldHardened s f Q k chips) : Type 0 where
+  pub readings : x .field .read ≡ wrote (own-readings s f Q c) (x .field .out)
+  pub hard : x .hardened ≡ wrote-bits (field-bits s f Q c) (x .bits)
 
 -- of both fields: one after the other, they are all of its bits
-pub record AllHardBits (slot : Slot) (Q k : ℕ) (c : Channel) (x : (f : Field) → FieldHardened slot f Q k) : Type 0 where
-  pub each-field : (f : Field) → HardBits slot f Q k c (x f)
-  pub all : field-bits (slot .settings) field-1 Q c ++ field-bits (slot .settings) field-2 Q c ≡ c .bits
+pub record AllHardBits (s : Setup) (Q k : ℕ) (chips : Field → Values) (c : Channel) (x : (f : Field) → FieldHardened s f Q k (chips f)) : Type 0 where
+  pub each-field : (f : Field) → HardBits s f Q k (chips f) c (x f)
+  pub all : field-bits s field-1 Q c ++ field-bits s field-2 Q c ≡ c .bits

@@ -146,3 +146,8 @@ fed (draw re im) = draw (length re) (length im)
 unfoldable pub told-by : Reference → List (Call ℕ) → List Told
 told-by r [] = []
 told-by r (c ∷ cs) = reference-step r c .told ∷ told-by (reference-step r c .next) cs
+
+-- what it is after them
+unfoldable pub left-after : Reference → List (Call ℕ) → Reference
+left-after r [] = r
+left-after r (c ∷ cs) = left-after (reference-step r c .next) cs

@@ -2,7 +2,7 @@
 -- fresh bench, each other one the bench as the call before left it."
 --
 -- Of each call a run says what its function's own `ensures` gives every caller, and nothing else: `Learnt`, which the toolchain reads from the source.
--- So what holds of every run holds of the functions, with no definition of ours between.
+-- So what holds of every run holds of the functions; nothing stands between but how an answer is told.
 use Prim.Native.Nat.{ℕ}
 use mathlib.Core.List.{List, [], _∷_, map}
 use lib.IntN.{ℤ}
@@ -34,12 +34,12 @@ use Rattle.demands.specs.Calls.{Call, set-cell, open-code, load-plan, cl
 abbrev pub answered : Answered → Step Bench
 answered r = record { told = tell (told-call (r .answer)); next = r .bench }
 
-abbrev pub planned : Planned → Step Bench
-planned r = record { told = tell-plan (told-plan (r .answer)); next = r .bench }
+abbrev pub plan-answered : Planned → Step Bench
+plan-answered r = record { told = tell-plan (told-plan (r .answer)); next = r .bench }
 
 -- of a draw also the two buffers as it left them
-abbrev pub drawn : Drawn → List ℤ → List ℤ → Step Bench
-drawn r re im = record { told = tell-draw (told-draw (r .answer)) re im; next = r .bench }
+abbrev pub draw-answered : Drawn → List ℤ → List ℤ → Step Bench
+draw-answered r re im = record { told = tell-draw (told-draw (r .answer)) re im; next = r .bench }
 
 -- Ran b c y: the function of call c, given the bench b, gave and left y. There is a case for each public function of the bench that takes one: r is its
 -- result, κs are the lifetimes of its references, e has its parameters as they are when it returns. `load_records` is load plan of the first records.
@@ -47,9 +47,9 @@ pub data Ran (b : Bench) : Call (List ℤ) → Step Bench → Type 0 where
   by-set-cell : (p t : ℕ) (r : Answered) (e : _) → set-cell-contract.Learnt tt (b, (record { 0 = p }, (t, tt))) r e → Ran b (set-cell p t) (answered r)
   by-open : (Q k g : ℕ) (r : Answered) (e : _) → open-contract.Learnt tt (b, (Q, (k, (g, tt)))) r e → Ran b (open-code Q k g) (answered r)
   by-load-plan : (κs : Lfts 1) (plan : RefT (List Record)) (r : Planned) (e : _) → load-plan-contract.Learnt κs (b, (plan, tt)) r e
-      → Ran b (load-plan (now plan)) (planned r)
+      → Ran b (load-plan (now plan)) (plan-answered r)
   by-load-records : (plan : PlanRecords) (count : ℕ) (r : Planned) (e : _) → load-records-contract.Learnt tt (b, (plan, (count, tt))) r e
-      → Ran b (load-plan (take count (plan .records))) (planned r)
+      → Ran b (load-plan (take count (plan .records))) (plan-answered r)
   by-close : (Q k : ℕ) (r : Answered) (e : _) → close-contract.Learnt tt (b, (Q, (k, tt))) r e → Ran b (close Q k) (answered r)
   by-set-gain : (Q k g : ℕ) (r : Answered) (e : _) → set-gain-contract.Learnt tt (b, (Q, (k, (g, tt)))) r e → Ran b (set-gain Q k g) (answered r)
   by-load-bits : (κs : Lfts 1) (Q k : ℕ) (bits : RefT (List ℕ)) (r : Answered) (e : _) → load-bits-contract.Learnt κs (b, (Q, (k, (bits, tt)))) r e
@@ -59,7 +59,7 @@ pub data Ran (b : Bench) : Call (List ℤ) → Step Bench → Type 0 where
   by-clear-sync : (r : Answered) (e : _) → clear-sync-contract.Learnt tt (b, tt) r e → Ran b clear-sync (answered r)
   by-start : (r : Answered) (e : _) → start-contract.Learnt tt (b, tt) r e → Ran b start (answered r)
   by-draw : (κs : Lfts 2) (re im : RefT (List ℤ)) (r : Drawn) (e : _) → draw-contract.Learnt κs (b, (re, (im, tt))) r e
-      → Ran b (draw (now re) (now im)) (drawn r (now (e .1 .0)) (now (e .1 .1 .0)))
+      → Ran b (draw (now re) (now im)) (draw-answered r (now (e .1 .0)) (now (e .1 .1 .0)))
 
 -- "each other one the bench as the call before left it"
 infixr 20 _then_
@@ -87,18 +87,3 @@ left-from b (y ∷ ys) = left-from (y .next) ys
 
 abbrev pub left-in : Run → Bench
 left-in run = left-from (run .first) (run .steps)
-
--- What the functions ask of a caller before they are called (`Asked`, read from their `requires`): a field for each public function.
-pub record Asks (b : Bench) : Type 0 where
-  pub fresh : fresh-contract.Asked tt tt
-  pub set-cell : (p t : ℕ) → set-cell-contract.Asked tt (b, (record { 0 = p }, (t, tt)))
-  pub open-code : (Q k g : ℕ) → open-contract.Asked tt (b, (Q, (k, (g, tt))))
-  pub load-plan : (κs : Lfts 1) (plan : RefT (List Record)) → load-plan-contract.Asked κs (b, (plan, tt))
-  pub load-records : (plan : PlanRecords) (count : ℕ) → load-records-contract.Asked tt (b, (plan, (count, tt)))
-  pub close : (Q k : ℕ) → close-contract.Asked tt (b, (Q, (k, tt)))
-  pub set-gain : (Q k g : ℕ) → set-gain-contract.Asked tt (b, (Q, (k, (g, tt))))
-  pub load-bits : (κs : Lfts 1) (Q k : ℕ) (bits : RefT (List ℕ)) → load-bits-contract.Asked κs (b, (Q, (k, (bits, tt))))
-  pub set-sync : (case frame half gP gS : ℕ) → set-sync-contract.Asked tt (b, (case, (frame, (half, (gP, (gS, tt))))))
-  pub clear-sync : clear-sync-contract.Asked tt (b, tt)
-  pub start : start-contract.Asked tt (b, tt)
-  pub draw : (κs : Lfts 2) (re im : RefT (List ℤ)) → draw-contract.Asked κs (b, (re, (im, tt)))
