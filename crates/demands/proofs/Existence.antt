@@ -1,7 +1,7 @@
--- Every list of calls has a run, so that what is said of every run is said of every list; and so have the calls of the analyser. Assumes nothing.
+-- Every call, on any bench and with any arguments, has a result that its function's contract describes; and so have the calls of the analyser. Assumes nothing.
 use Prim.Native.Nat.{ℕ}
 use mathlib.Core.Path.{_≡_, refl}
-use mathlib.Core.List.{List, [], _∷_}
+use mathlib.Core.List.{List, []}
 use lib.IntN.{ℤ}
 use lib.ListN.{length, take}
 use denote.Ref.{RefT}
@@ -27,9 +27,9 @@ use Rattle.bench.specs.declared.PlanAnswer.{PlanAnswer}
 use Rattle.bench.specs.declared.PlanAnswer.the-variants.{Loaded, Refused as NotLoaded}
 use Rattle.bench.specs.declared.DrawAnswer.{DrawAnswer}
 use Rattle.bench.specs.declared.DrawAnswer.the-variants.{Drew, Refused as NotDrawn}
-use Rattle.bench.specs.BenchCalls.{fresh, AnswerAt, refused-at, loads, told-call, told-plan, told-draw, set-cell-call, open-call, load-plan-call, plan-outcome, plan-left-by, close-call, set-gain-call, load-bits-call, set-sync-call, clear-sync-call, start-call, draw-call, counted, left-by}
+use Rattle.bench.specs.BenchCalls.{AnswerAt, refused-at, loads, told-call, told-plan, told-draw, set-cell-call, open-call, load-plan-call, plan-outcome, plan-left-by, close-call, set-gain-call, load-bits-call, set-sync-call, clear-sync-call, start-call, draw-call, counted, left-by}
 use Rattle.demands.specs.Calls.{Call, set-cell, open-code, load-plan, close, set-gain, load-bits, set-sync, clear-sync, start, draw, Step}
-use Rattle.demands.specs.Runs.{Ran, by-set-cell, by-open, by-load-plan, by-load-records, by-close, by-set-gain, by-load-bits, by-set-sync, by-clear-sync, by-start, by-draw, RunFrom, ended, _then_, Run}
+use Rattle.demands.specs.Runs.{Ran, by-set-cell, by-open, by-load-plan, by-load-records, by-close, by-set-gain, by-load-bits, by-set-sync, by-clear-sync, by-start, by-draw}
 use Rattle.demands.specs.AnalyserRuns.{Output, RanRead, by-read, RanHarden, by-harden, RanReadSync, by-read-sync}
 
 -- ---- a result that gives an answer
@@ -74,7 +74,7 @@ module _ (b : Bench) where
   abbrev plan-result : AnswerAt Bench → Planned
   plan-result a = record { answer = plan-case (plan-outcome a) .case; bench = plan-left-by a b }
 
-  can-run : (c : Call (List ℤ)) → (y : Step Bench) × Ran b c y
+  pub can-run : (c : Call (List ℤ)) → (y : Step Bench) × Ran b c y
   can-run (set-cell p t) = let a = set-cell-call b (record { 0 = p }) t in (_, by-set-cell p t (result a) (b, (record { 0 = p }, (t, tt))) (call-case (outcome a) .is, refl))
   can-run (open-code Q k g) = let a = open-call b Q k g in (_, by-open Q k g (result a) (b, (Q, (k, (g, tt)))) (call-case (outcome a) .is, refl))
   can-run (load-plan plan) =
@@ -104,18 +104,6 @@ module _ (b : Bench) where
   records-run plan count =
       let a = load-plan-call b (take count (plan .records)) in
       (_, by-load-records plan count (plan-result a) (b, (plan, (count, tt))) (plan-case (plan-outcome a) .is, refl))
-
--- ---- a list of calls
-can-run-all : (b : Bench) (calls : List (Call (List ℤ))) → (ys : List (Step Bench)) × RunFrom b calls ys
-can-run-all b [] = ([], ended)
-can-run-all b (c ∷ cs) =
-    let x = can-run b c in
-    let rest = can-run-all (x .0 .next) cs in
-    (x .0 ∷ rest .0, x .1 then rest .1)
-
--- "The list has any length, also 0, and any arguments."
-pub runs-exist : (calls : List (Call (List ℤ))) → (run : Run) × (run .calls ≡ calls)
-runs-exist calls = let x = can-run-all fresh calls in (record { first = fresh; fresh = refl; calls = calls; steps = x .0; ran = x .1 }, refl)
 
 -- ---- the analyser, for any buffers
 pub reads-exist : (p Q k : ℕ) (field out : Values) → (y : Output Values) × RanRead p Q k field out y

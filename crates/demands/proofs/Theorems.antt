@@ -1,10 +1,9 @@
--- Demands 2 and 3 of every run of the functions: a list of calls of any length and with any arguments, refused ones included, from a fresh bench. Every list
--- has a run (`runs-exist`). Assumes nothing.
+-- Demands 2 and 3 of every run of the functions: a list of calls of any length and with any arguments, refused ones included, from a fresh bench. Assumes nothing.
 use Prim.Native.Nat.{ℕ, _+_, _*_, _≤_}
-use mathlib.Core.Path.{_≡_, sym, ap, ap₂, _∙_}
+use mathlib.Core.Path.{_≡_, refl, sym, ap, ap₂, _∙_}
 use mathlib.Core.Logic.{_↔_}
 use mathlib.Core.Bool.{true, false}
-use mathlib.Core.List.{List, List·Memᴰ, map}
+use mathlib.Core.List.{List, [], _∷_, List·Memᴰ, map}
 use mathlib.Core.Option.{none, some}
 use lib.IntN.{ℤ}
 use lib.ListN.{length}
@@ -20,9 +19,10 @@ use Rattle.analyser.specs.Hardening.{harden-call}
 use Rattle.sync_analyser.specs.declared.Candidate.{Candidate}
 use Rattle.sync_analyser.specs.SyncReading.{of-group}
 use Rattle.bench.specs.declared.Bench.{Bench}
-use Rattle.demands.specs.Calls.{draw, refused-by, Step}
+use Rattle.bench.specs.BenchCalls.{fresh}
+use Rattle.demands.specs.Calls.{Call, draw, refused-by, Step}
 use Rattle.demands.specs.Reference.{Reference, fresh-reference, fed, told-by, left-after}
-use Rattle.demands.specs.Runs.{Ran, Run, told-in, left-in}
+use Rattle.demands.specs.Runs.{Ran, RunFrom, ended, _then_, Run, told-in, left-in}
 use Rattle.demands.specs.AnalyserRuns.{Output, RanReadSync, wrote}
 use Rattle.demands.specs.Slots.{Slot, slots, InOrder, NothingLeft}
 use Rattle.demands.specs.Fields.{Field, field-length, field-start, Drawn, DrawnWhole, chips-from, drawn-field, reading-count, FieldRead, own-readings, unrelated, zero-readings, no-burst, burst-field, quiet-field, BurstAdds, power-of-16, power-due, first-values, FieldHardened, HardBits, AllHardBits}
@@ -30,12 +30,24 @@ use Rattle.demands.specs.Valid.{Valid}
 use Rattle.demands.proofs.Steps.{reference-of, ValidBench, ran-steps}
 use Rattle.demands.proofs.BurstDrawn.{slot-burst}
 use Rattle.demands.proofs.Contracts.{read-meets, harden-meets, read-sync-meets}
+use Rattle.demands.proofs.Existence.{can-run}
 use Rattle.demands.proofs.FieldReadings.{of-data, of-burst}
 use Rattle.demands.proofs.HardBits.{no-burst-anywhere, own-bits, all-bits}
 use Rattle.demands.proofs.History.{Good, all-at, draw-11}
 use Rattle.demands.proofs.Power.{slot-power}
 use Rattle.demands.proofs.Runs.{first-same, run-holds, run-noted, run-good}
 use Rattle.demands.proofs.SlotReadings.{own-of-data, zero-of-data, quiet-reads, burst-reads, none-too-large, own-reads, zero-reads, sum-reads}
+
+-- "The list has any length, also 0, and any arguments.": every list has a run, so that what is said of every run is said of every list
+runs-from : (b : Bench) (calls : List (Call (List ℤ))) → (ys : List (Step Bench)) × RunFrom b calls ys
+runs-from b [] = ([], ended)
+runs-from b (c ∷ cs) =
+    let x = can-run b c in
+    let rest = runs-from (x .0 .next) cs in
+    (x .0 ∷ rest .0, x .1 then rest .1)
+
+pub runs-exist : (calls : List (Call (List ℤ))) → (run : Run) × (run .calls ≡ calls)
+runs-exist calls = let x = runs-from fresh calls in (record { first = fresh; fresh = refl; calls = calls; steps = x .0; ran = x .1 }, refl)
 
 module _ (run : Run) where
   -- Demand 3: "the refusals, counts and drawn chips are those of document 01's ledger". "At every call of the list the bench gives the ledger's number, place
