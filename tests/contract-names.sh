@@ -13,13 +13,13 @@ fail() {
     exit 1
 }
 
-# The public functions of a crate that a host calls: the methods of `Bench`, in whatever file, and functions at the root; one a line
+# The public functions that take or make a bench: the methods of `Bench`, in whatever file, and functions at the root; one a line
 public() {
-    awk '
+    find "$root/crates/bench/src" -name '*.rt' -exec awk '
         FNR == 1 { inside = 0; at_root = FILENAME ~ /\/lib\.rt$/ }
         /^impl Bench / { inside = 1 }
         /^}/ { inside = 0 }
-        /^ *pub (extern "C" )?fn / && (inside || at_root && /^pub/) { sub(/^.*fn /, ""); sub(/[^A-Za-z0-9_].*/, ""); print }' "$root/crates/$1/src/"*.rt | sort
+        /^ *pub (extern "C" )?fn / && (inside || at_root && /^pub/) { sub(/^.*fn /, ""); sub(/[^A-Za-z0-9_].*/, ""); print }' {} + | sort
 }
 
 # The contracts that a part of Runs takes, one a line: taken FIRST-WORDS, the part ending with an empty line
@@ -27,15 +27,18 @@ taken() {
     awk -v first="$1" 'index($0, first) == 1 { inside = 1 } /^$/ { inside = 0 } inside' "$runs" | grep -o '[a-z0-9-]*-contract\.Learnt' | sed 's/-contract.*//'
 }
 
-# The text from a public function's name to its body: head_of CRATE FUNCTION
+# The text from a public function's name to its body, which begins with a brace alone on its line: head_of CRATE FUNCTION
 head_of() {
     awk -v name="$2" '
         index($0, "pub fn " name "(") { inside = 1 }
-        /^ *[{]/ { inside = 0 }
+        /^ *[{]$/ { inside = 0 }
         inside' "$root/crates/$1/src/"*.rt
 }
 
-functions=$(public bench)
+functions=$(public)
+for module in $(sed -n 's/^pub mod \(.*\);$/\1/p' "$root/crates/bench/src/lib.rt"); do
+    ! grep -rqw Bench "$root/crates/bench/src/$module"* || fail "the public module $module of crate bench speaks of a bench; its functions would be no case of a run"
+done
 due=$(echo "$functions" | tr _ - | sort)
 found=$({ taken 'pub data Ran '; taken 'pub record Run '; } | sort)
 [ "$found" = "$due" ] || fail "the functions whose contracts make a run are
@@ -46,11 +49,16 @@ for function in $functions; do
     name=$(echo "$function" | tr _ -)
     case $function in
     load_plan) # walked by hand, and read in a file of its own
-        grep -qF "use Rattle.demands.specs.LoadPlanReads as $name-contract" "$runs" && grep -qF "use Rattle.bench.proofs.Bench.$function.{clauses," "$plan"
+        grep -qF "use Rattle.demands.specs.LoadPlanReads as $name-contract" "$runs" && grep -qF "use Rattle.bench.proofs.Bench.$function.{clauses," "$plan" &&
+            grep -qF 'ensures-of w = clauses ' "$plan" && grep -qxF '  Learnt = AllOf (reads .tells)' "$plan"
         ;;
     *) grep -qF "use Rattle.bench.proofs.Bench.$function.Reads as $name-contract" "$runs" ;;
     esac || fail "$name-contract in $runs is not the contract of $function"
-    [ "$function" = fresh ] || awk -v name="$name" '
+    [ "$function" != fresh ] || {
+        echo "contract-names: a run begins with what fresh gives by its own contract"
+        continue
+    }
+    awk -v name="$name" '
         index($0, "  by-") == 1 { inside = index($0, "  by-" name " :") == 1 }
         inside && index($0, name "-contract.Learnt ") { found = 1 }
         END { exit !found }' "$runs" || fail "the case by-$name in $runs does not take what $function ensures"

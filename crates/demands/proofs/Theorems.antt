@@ -6,7 +6,8 @@ use mathlib.Core.Bool.{true, false}
 use mathlib.Core.List.{List, [], _∷_, List·Memᴰ, map}
 use mathlib.Core.Option.{none, some}
 use lib.IntN.{ℤ}
-use lib.ListN.{length}
+use lib.ListN.{length, take}
+use Rattle.complex.specs.declared.Complex.{Complex}
 use Rattle.complex.specs.Buffers.{Values, in-buffers}
 use Rattle.complex.proofs.Lists.{take-written}
 use Rattle.codes.specs.Refusals.{Answer, gives}
@@ -25,7 +26,7 @@ use Rattle.demands.specs.Reference.{Reference, fresh-reference, fed, tol
 use Rattle.demands.specs.Runs.{Ran, RunFrom, ended, _then_, Run, told-in, left-in}
 use Rattle.demands.specs.AnalyserRuns.{Output, RanReadSync, wrote}
 use Rattle.demands.specs.Slots.{Slot, slots, InOrder, NothingLeft}
-use Rattle.demands.specs.Fields.{Field, field-length, field-start, Drawn, DrawnWhole, chips-from, drawn-field, reading-count, FieldRead, own-readings, unrelated, zero-readings, no-burst, burst-field, quiet-field, BurstAdds, power-of-16, power-due, first-values, FieldHardened, HardBits, AllHardBits}
+use Rattle.demands.specs.Fields.{Field, field-length, field-start, Drawn, DrawnWhole, chips-from, drawn-field, reading-count, FieldRead, readings, own-readings, unrelated, zero-readings, no-burst, burst-field, quiet-field, added, BurstAdds, power-of-16, power-due, FieldHardened, HardBits, AllHardBits}
 use Rattle.demands.specs.Valid.{Valid}
 use Rattle.demands.proofs.Steps.{reference-of, ValidBench, ran-steps}
 use Rattle.demands.proofs.BurstDrawn.{slot-burst}
@@ -48,6 +49,14 @@ runs-from b (c ∷ cs) =
 
 pub runs-exist : (calls : List (Call (List ℤ))) → (run : Run) × (run .calls ≡ calls)
 runs-exist calls = let x = runs-from fresh calls in (record { first = fresh; fresh = refl; calls = calls; steps = x .0; ran = x .1 }, refl)
+
+-- the readings of a read that wrote n values
+readings-are : {s : Setup} {f : Field} {Q k : ℕ} {chips : Values} (x : FieldRead s f Q k chips) (g : ℕ → Complex)
+    → (let v = in-buffers (reading-count s f Q) g in x .read ≡ wrote v (x .out) → readings x ≡ v)
+readings-are {s} {f} {Q} {k} {chips} x g e =
+    let n = reading-count s f Q in
+    ap (λ (y : Output Values). record { re = take n (y .left .re); im = take n (y .left .im) }) e
+    ∙ ap₂ (λ (re im : List ℤ). record { re = re; im = im }) (take-written _ (x .out .re) n) (take-written _ (x .out .im) n)
 
 module _ (run : Run) where
   -- Demand 3: "the refusals, counts and drawn chips are those of document 01's ledger". "At every call of the list the bench gives the ledger's number, place
@@ -118,31 +127,29 @@ module _ (run : Run) where
       pub burst-adds : is-code Q k ≡ true → (quiet : FieldRead s f Q k (quiet-field s f)) (burst : FieldRead s f Q k (burst-field s f))
           → BurstAdds s f Q k (drawn-field slot f) x quiet burst
       burst-adds c quiet burst =
+          let n = reading-count s f Q in
+          let d = read-meets (quiet .ran) (quiet-reads s (good .valid) f Q k c (quiet .out) (quiet .suffice)) in
+          let b = read-meets (burst .ran) (burst-reads s (good .valid) f Q k c (burst .out) (burst .suffice)) in
+          let of-quiet = readings-are quiet (of-data s f Q k) d in
+          let of-alone = readings-are burst (of-burst s f Q k) b in
           record {
-            others = in-buffers (reading-count s f Q) (of-data s f Q k);
-            own = in-buffers (reading-count s f Q) (of-burst s f Q k);
-            others-is = read-meets (quiet .ran) (quiet-reads s (good .valid) f Q k c (quiet .out) (quiet .suffice));
-            own-is = read-meets (burst .ran) (burst-reads s (good .valid) f Q k c (burst .out) (burst .suffice));
-            sum = read-meets (x .ran) (sum-reads slot good f whole Q k (x .out) (x .suffice) c);
-            open-code = own-of-data s (good .valid) f Q k;
-            unrelated-code = zero-of-data s (good .valid) f Q k c;
+            others = d ∙ ap (λ (v : Values). wrote v (quiet .out)) (sym of-quiet);
+            own = b ∙ ap (λ (v : Values). wrote v (burst .out)) (sym of-alone);
+            sum = read-meets (x .ran) (sum-reads slot good f whole Q k (x .out) (x .suffice) c)
+                ∙ ap₂ (λ (v w : Values). wrote (added n v w) (x .out)) (sym of-quiet) (sym of-alone);
+            open-code = λ c e. of-quiet ∙ own-of-data s (good .valid) f Q k c e;
+            unrelated-code = λ e. of-quiet ∙ zero-of-data s (good .valid) f Q k c e;
           }
 
     -- ---- Demand 2: "hardening the readings of a channel in a slot without sync yields the bits it held when that slot started"
     module _ (Q k : ℕ) (c : Channel) (no-sync : s .sync ≡ none) (e : s .channel Q k ≡ some c) where
       pub hard-bits : (f : Field) → DrawnWhole slot f → (x : FieldHardened s f Q k (drawn-field slot f)) → HardBits s f Q k (drawn-field slot f) c x
       hard-bits f whole x =
-          let N = reading-count s f Q in
-          let out = x .field .out in
           let r = own-reading f whole Q k (x .field) c e (no-burst-anywhere s no-sync (field-start s f) (field-length s f)) in
-          -- the readings that are hardened
-          let first : first-values N (x .field .read .left) ≡ own-readings s f Q c =
-          ap (λ (y : Output Values). first-values N (y .left)) r
-          ∙ ap₂ (λ (re im : List ℤ). record { re = re; im = im }) (take-written _ (out .re) N) (take-written _ (out .im) N) in
           record {
-            readings = r;
-            hard = harden-meets (x .ran)
-                (ap (λ (v : Values). harden-call (v .re) (v .im) (length (x .bits))) first ∙ own-bits s (good .valid) Q k c e f (length (x .bits)) (x .suffice));
+            read-wrote = r;
+            harden-wrote = harden-meets (x .ran)
+                (ap (λ (v : Values). harden-call (v .re) (v .im) (length (x .bits))) (readings-are (x .field) _ r) ∙ own-bits s (good .valid) Q k c e f (length (x .bits)) (x .suffice));
           }
 
       -- of both fields

@@ -87,6 +87,10 @@ pub record FieldRead (s : Setup) (f : Field) (Q k : ℕ) (chips : Values) : Type
   pub read : Output Values
   pub ran : RanRead (s .cell) Q k chips out read
 
+-- its readings: the first entries of the answer buffers as read left them
+abbrev pub readings : {s : Setup} {f : Field} {Q k : ℕ} {chips : Values} → FieldRead s f Q k chips → Values
+readings {s} {f} {Q} {k} {chips} x = let n = reading-count s f Q in record { re = take n (x .read .left .re); im = take n (x .read .left .im) }
+
 -- "A code's own symbols are those of that field, the n-th for reading n."
 abbrev pub own-symbol : Setup → Field → ℕ → Channel → ℕ → Complex
 own-symbol s f Q c n = symbol (pair (c .bits) (field-before s f / Q + n))
@@ -125,16 +129,14 @@ abbrev pub added : ℕ → Values → Values → Values
 added n v w = in-buffers n (λ i. value (v .re) (v .im) i ⊕ value (w .re) (w .im) i)
 
 -- "A sync burst adds exactly its own reading.", which "is what the same read gives for that field with the burst's chips alone": x is the field read as it was
--- drawn, quiet without sync, burst with the burst's chips alone
+-- drawn, quiet without sync, burst with the burst's chips alone; read accepts all three
 pub record BurstAdds (s : Setup) (f : Field) (Q k : ℕ) (drawn : Values) (x : FieldRead s f Q k drawn) (quiet : FieldRead s f Q k (quiet-field s f)) (burst : FieldRead s f Q k (burst-field s f)) : Type 0 where
-  pub others : Values
-  pub own : Values
-  pub others-is : quiet .read ≡ wrote others (quiet .out)
-  pub own-is : burst .read ≡ wrote own (burst .out)
-  pub sum : x .read ≡ wrote (added (reading-count s f Q) others own) (x .out)
+  pub others : quiet .read ≡ wrote (readings quiet) (quiet .out)
+  pub own : burst .read ≡ wrote (readings burst) (burst .out)
+  pub sum : x .read ≡ wrote (added (reading-count s f Q) (readings quiet) (readings burst)) (x .out)
   -- where the code is open, and where it is unrelated to all open ones
-  pub open-code : (c : Channel) → s .channel Q k ≡ some c → others ≡ own-readings s f Q c
-  pub unrelated-code : unrelated s Q k ≡ true → others ≡ zero-readings s f Q
+  pub open-code : (c : Channel) → s .channel Q k ≡ some c → readings quiet ≡ own-readings s f Q c
+  pub unrelated-code : unrelated s Q k ≡ true → readings quiet ≡ zero-readings s f Q
 
 -- ---- power, hard bits
 -- "the squared components of each 16 data chips add up to": those from chip x of the slot on, as they were drawn. "A stretch of 16 data chips counts
@@ -150,23 +152,19 @@ power-due s = pos (16 * squared-gains s)
 abbrev pub field-bits : Setup → Field → ℕ → Channel → List ℕ
 field-bits s f Q c = part (2 * (field-before s f / Q)) (2 * reading-count s f Q) (c .bits)
 
--- the first n values of two buffers
-abbrev pub first-values : ℕ → Values → Values
-first-values n v = record { re = take n (v .re); im = take n (v .im) }
-
 -- The chips of a field read, and the readings hardened into a byte buffer that suffices: `hardened` is what the function harden gave and left there.
 pub record FieldHardened (s : Setup) (f : Field) (Q k : ℕ) (chips : Values) : Type 0 where
   pub field : FieldRead s f Q k chips
   pub bits : List ℕ
   pub suffice : 2 * reading-count s f Q ≤ length bits
   pub hardened : Output (List ℕ)
-  pub ran : RanHarden (first-values (reading-count s f Q) (field .read .left)) bits hardened
+  pub ran : RanHarden (readings field) bits hardened
 
 -- "hardening the readings of a channel .. yields the bits it held when that slot started": read wrote the channel's own readings, and harden the bits that
 -- the field sends
 pub record HardBits (s : Setup) (f : Field) (Q k : ℕ) (chips : Values) (c : Channel) (x : FieldHardened s f Q k chips) : Type 0 where
-  pub readings : x .field .read ≡ wrote (own-readings s f Q c) (x .field .out)
-  pub hard : x .hardened ≡ wrote-bits (field-bits s f Q c) (x .bits)
+  pub read-wrote : x .field .read ≡ wrote (own-readings s f Q c) (x .field .out)
+  pub harden-wrote : x .hardened ≡ wrote-bits (field-bits s f Q c) (x .bits)
 
 -- of both fields: one after the other, they are all of its bits
 pub record AllHardBits (s : Setup) (Q k : ℕ) (chips : Field → Values) (c : Channel) (x : (f : Field) → FieldHardened s f Q k (chips f)) : Type 0 where

@@ -84,8 +84,8 @@ under-way r = is-some (r .sending)
 abbrev pub with-settings : Reference → Setup → Reference
 with-settings r s = record { settings = s; sending = r .sending; sent = r .sent }
 
--- A refused call gets its number, load plan the place too, and changes nothing. Each accepted call but start and draw changes the settings by its
--- entry.
+-- A refused call gets its number, load plan the place too, and changes nothing (here, and in `started` and `drawn`). Each accepted call but
+-- start and draw changes the settings by its entry.
 abbrev pub by-entry : Reference → Answer Setup → Step Reference
 by-entry r (refused n) = record { told = refused-by n; next = r }
 by-entry r (gives s) = record { told = accepted; next = with-settings r s }

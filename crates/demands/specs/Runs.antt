@@ -1,8 +1,8 @@
 -- Document 01, "The list and its ledger": a run of the bench's functions. "The list has any length, also 0, and any arguments. Its first call takes the
 -- fresh bench, each other one the bench as the call before left it."
 --
--- Of each call a run says what its function's own `ensures` gives every caller, and nothing else: `Learnt`, which the toolchain reads from the source.
--- So what holds of every run holds of the functions; nothing stands between but how an answer is told.
+-- Of each call a run says what its function's own `ensures` gives every caller, and nothing else: `Learnt`, which the toolchain reads from the source
+-- (of load plan `LoadPlanReads` does, from the same). So what holds of every run holds of the functions; nothing stands between but how an answer is told.
 use Prim.Native.Nat.{ℕ}
 use mathlib.Core.List.{List, [], _∷_, map}
 use lib.IntN.{ℤ}
@@ -41,7 +41,7 @@ plan-answered r = record { told = tell-plan (told-plan (r .answer)); next = r .b
 abbrev pub draw-answered : Drawn → List ℤ → List ℤ → Step Bench
 draw-answered r re im = record { told = tell-draw (told-draw (r .answer)) re im; next = r .bench }
 
--- Ran b c y: the function of call c, given the bench b, gave and left y. There is a case for each public function of the bench that takes one: r is its
+-- Ran b c y: the function of call c, given the bench b, gave and left y. There is a case for each public function that takes a bench: r is its
 -- result, κs are the lifetimes of its references, e has its parameters as they are when it returns. `load_records` is load plan of the first records.
 pub data Ran (b : Bench) : Call (List ℤ) → Step Bench → Type 0 where
   by-set-cell : (p t : ℕ) (r : Answered) (e : _) → set-cell-contract.Learnt tt (b, (record { 0 = p }, (t, tt))) r e → Ran b (set-cell p t) (answered r)

@@ -13,7 +13,7 @@ use Rattle.sync_codes.specs.declared.ModulatedCode.{ModulatedCode}
 use Rattle.sync_codes.specs.declared.Allocated.{Allocated}
 use Rattle.sync_codes.specs.declared.burst.CodeSet.{CodeSet}
 
--- Code sets (A, B, D): 1 is (1, 3, 5), 2 is (10, 13, 14), 3 is (0, 6, 12), 4 is (4, 8, 15); there is no set 0.
+-- Code sets (A, B, D): 1 is (1, 3, 5), 2 is (10, 13, 14), 3 is (0, 6, 12), 4 is (4, 8, 15); there is no other.
 abbrev pub set-of : ℕ → ℕ → ℕ → CodeSet
 set-of A B D = record { a = A; b = B; d = D }
 

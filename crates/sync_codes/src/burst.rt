@@ -44,7 +44,7 @@ pub struct CodeSet {
     pub d: u32,
 }
 
-// Code set n of the four; codes 0 for any other number.
+// Code set n of the four; 0, 0, 0, which is no set, for any other number.
 pub fn code_set(n: u32) -> CodeSet
     ensures { λ r. ⌜ r ≡ code-set n ⌝ }
 {
