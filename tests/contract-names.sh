@@ -13,11 +13,11 @@ fail() {
     exit 1
 }
 
-# The public functions that take or make a bench: the methods of `Bench`, in whatever file, and functions at the root; one a line
+# The public functions of a bench: those of `Bench`, in whatever file, and all others at the root, of other types too; one a line
 public() {
     find "$root/crates/bench/src" -name '*.rt' -exec awk '
         FNR == 1 { inside = 0; at_root = FILENAME ~ /\/lib\.rt$/ }
-        /^impl Bench / { inside = 1 }
+        /^impl / { inside = at_root || $2 == "Bench" }
         /^}/ { inside = 0 }
         /^ *pub (extern "C" )?fn / && (inside || at_root && /^pub/) { sub(/^.*fn /, ""); sub(/[^A-Za-z0-9_].*/, ""); print }' {} + | sort
 }
@@ -32,13 +32,14 @@ head_of() {
     awk -v name="$2" '
         index($0, "pub fn " name "(") { inside = 1 }
         /^ *[{]$/ { inside = 0 }
-        inside' "$root/crates/$1/src/"*.rt
+        inside' $(find "$root/crates/$1/src" -name '*.rt')
 }
 
 functions=$(public)
 for module in $(sed -n 's/^pub mod \(.*\);$/\1/p' "$root/crates/bench/src/lib.rt"); do
-    ! grep -rqw Bench "$root/crates/bench/src/$module"* || fail "the public module $module of crate bench speaks of a bench; its functions would be no case of a run"
+    ! grep -qwE 'Bench|Answered|Planned|Drawn' "$root/crates/bench/src/$module.rt" || fail "the public module $module of crate bench speaks of a bench; its functions would be no case of a run"
 done
+! grep -n '^pub use' "$root/crates/bench/src/lib.rt" || fail "crate bench makes public what stands in a module; a function of that would be no case of a run"
 due=$(echo "$functions" | tr _ - | sort)
 found=$({ taken 'pub data Ran '; taken 'pub record Run '; } | sort)
 [ "$found" = "$due" ] || fail "the functions whose contracts make a run are

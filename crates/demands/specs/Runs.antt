@@ -41,7 +41,7 @@ plan-answered r = record { told = tell-plan (told-plan (r .answer)); next = r .b
 abbrev pub draw-answered : Drawn → List ℤ → List ℤ → Step Bench
 draw-answered r re im = record { told = tell-draw (told-draw (r .answer)) re im; next = r .bench }
 
--- Ran b c y: the function of call c, given the bench b, gave and left y. There is a case for each public function that takes a bench: r is its
+-- Ran b c y: the function of call c, given the bench b, gave and left y. There is a case for each public function of `Bench` that takes one: r is its
 -- result, κs are the lifetimes of its references, e has its parameters as they are when it returns. `load_records` is load plan of the first records.
 pub data Ran (b : Bench) : Call (List ℤ) → Step Bench → Type 0 where
   by-set-cell : (p t : ℕ) (r : Answered) (e : _) → set-cell-contract.Learnt tt (b, (record { 0 = p }, (t, tt))) r e → Ran b (set-cell p t) (answered r)
