@@ -8,13 +8,7 @@
 .NOTPARALLEL:
 
 test:
-	@rt fmt --check
-	@tests/contract-names.sh
-	@tests/export-contracts.sh
-	@tests/tdd.sh
-	@tests/host.sh
-	@tests/compiler-refusals.sh
-	@rt ci
+	@tests/all.sh
 
 libraries: lib/libtdd_bench.a lib/libtdd_codes.a
 

@@ -74,7 +74,7 @@ asks_nothing() {
 for function in $functions; do
     asks_nothing bench "$function"
 done
-asks_nothing analyser read
-asks_nothing analyser harden
-asks_nothing sync_analyser read_sync
+asks_nothing read read
+asks_nothing harden harden
+asks_nothing read_sync read_sync
 echo "contract-names: none of them, nor read, harden and read_sync, has a requires"

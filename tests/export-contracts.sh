@@ -115,23 +115,22 @@ in_order $bench fresh tdd_bench tdd_bench_fresh
 same "what tdd_bench_fresh ensures in crates/tdd_bench/src/lib.rt is" "$(ensured crates/tdd_bench/src/lib.rt tdd_bench_fresh)" "$(ensured $bench fresh)"
 
 # The analyser answers a number, or a struct of numbers.
-export_of crates/analyser/src/lib.rt read tdd_bench tdd_read "$(clause refusal 'r ≡ refusal-of CALL')
+export_of crates/read/src/lib.rt read tdd_bench tdd_read "$(clause refusal 'r ≡ refusal-of CALL')
 $(clause real 'now (outre .exit) ≡ after CALL (now (outre .entry)) (λ y. written (y .re) (now (outre .entry)))')
 $(clause imaginary 'now (outim .exit) ≡ after CALL (now (outim .entry)) (λ y. written (y .im) (now (outim .entry)))')"
-export_of crates/analyser/src/lib.rt harden tdd_bench tdd_harden "$(clause refusal 'r ≡ refusal-of CALL')
+export_of crates/harden/src/lib.rt harden tdd_bench tdd_harden "$(clause refusal 'r ≡ refusal-of CALL')
 $(clause bytes 'now (bits .exit) ≡ after CALL (now (bits .entry)) (λ b. written b (now (bits .entry)))')"
-export_of crates/sync_analyser/src/lib.rt read_sync tdd_bench tdd_read_sync "$refusal
+export_of crates/read_sync/src/lib.rt read_sync tdd_bench tdd_read_sync "$refusal
 $(clause group 'r .group ≡ after CALL 0 (λ c. c .group .0)')
 $(clause frame 'r .frame ≡ after CALL 0 (λ c. c .frame)')
 $(clause half 'r .half ≡ after CALL 0 (λ c. c .half)')"
-export_of crates/sync_analyser/src/lib.rt find tdd_bench tdd_find "$refusal
+export_of crates/find/src/lib.rt find tdd_bench tdd_find "$refusal
 $(clause start 'r .start ≡ after CALL 0 (λ p. p .start)')
 $(clause size 'r .size ≡ after CALL (pos 0) (λ p. p .size)')
 $(clause real 'ScratchLeft CALL (now (sumre .entry)) (now (sumre .exit))')
 $(clause imaginary 'ScratchLeft CALL (now (sumim .entry)) (now (sumim .exit))')"
 
 codes=crates/codes/src/lib.rt
-sync_codes=crates/sync_codes/src/lib.rt
 export_of $codes element tdd_codes tdd_element "$refusal
 $(clause element 'r .element ≡ after CALL (pos 0) (λ e. e)')"
 export_of $codes related tdd_codes tdd_related "$refusal
@@ -141,11 +140,11 @@ $(clause group 'r .group ≡ after CALL 0 (λ g. g)')"
 chip="$refusal
 $(clause chip 'r .chip ≡ after CALL 𝟎 (λ x. x)')"
 export_of $codes scrambling_chip tdd_codes tdd_scrambling_chip "$chip"
-export_of $sync_codes primary_chip tdd_codes tdd_primary_chip "$chip"
-export_of $sync_codes secondary_chip tdd_codes tdd_secondary_chip "$chip"
-export_of $sync_codes allocation tdd_codes tdd_allocation "$refusal
+export_of $codes primary_chip tdd_codes tdd_primary_chip "$chip"
+export_of $codes secondary_chip tdd_codes tdd_secondary_chip "$chip"
+export_of $codes allocation tdd_codes tdd_allocation "$refusal
 $(clause codes 'r .codes ≡ after CALL silent (λ s. s)')"
-export_of $sync_codes burst_start tdd_codes tdd_burst_start "$refusal
+export_of $codes burst_start tdd_codes tdd_burst_start "$refusal
 $(clause start 'r .start ≡ after CALL 0 (λ n. n)')"
 
 exports=$(cat "$root"/crates/tdd_bench/src/*.rt "$root"/crates/tdd_codes/src/*.rt | grep -c '^pub extern "C" fn ')

@@ -1,5 +1,5 @@
 // Harden, of all pairs of nine components and of noise.
-use analyser::HardenAnswer;
+use harden::HardenAnswer;
 use signals::Chips;
 use signals::IM;
 use signals::bytes;
@@ -31,5 +31,5 @@ pub fn answer(x: Row, readings: &Chips) {
 fn harden(x: Row, readings: &[i32], bits: &mut [u8]) -> HardenAnswer {
     let re = signals::part(readings, 0, x.4);
     let im = signals::part(readings, IM, x.5);
-    analyser::harden(re, im, bytes::first(bits, x.6))
+    harden::harden(re, im, bytes::first(bits, x.6))
 }

@@ -1,6 +1,6 @@
 // Read, of fields of noise and of fields at one level.
-use analyser::ReadAnswer;
 use codes::CellParameter;
+use read::ReadAnswer;
 use signals::Chips;
 use signals::IM;
 use signals::accepted;
@@ -72,7 +72,7 @@ pub fn answer(x: Row, edge: bool, chips: &Chips) {
 }
 
 fn read(x: Row, chips: &[i32], outre: &mut [i32], outim: &mut [i32]) -> ReadAnswer {
-    analyser::read(
+    read::read(
         CellParameter(x.0),
         x.1,
         x.2,

@@ -1,10 +1,10 @@
 // Read sync, of bursts with and without noise.
 use codes::CodeGroup;
+use read_sync::SyncAnswer;
 use signals::Chips;
 use signals::IM;
 use signals::form;
 use signals::form::Row;
-use sync_analyser::SyncAnswer;
 
 // The gain of the primary code, the gain of the secondary codes, and the limit of the noise.
 struct Gains(u32, u32, u32);
@@ -58,7 +58,7 @@ fn seed(case: u32, group: u32, frame: u32, half: u32) -> u32 {
 
 fn line(case: u32, group: u32, frame: u32, half: u32, gains: Gains) {
     let mut chips = signals::zeros();
-    let three = sync_codes::burst::allocated(case, CodeGroup(group), frame, half);
+    let three = codes::burst::allocated(case, CodeGroup(group), frame, half);
     signals::add_burst(&mut chips, 0, three, gains.0, gains.1);
     signals::add_noise(&mut chips, 256, gains.2, seed(case, group, frame, half));
     let digest = signals::digest_of(&chips, 256);
@@ -81,9 +81,9 @@ fn line(case: u32, group: u32, frame: u32, half: u32, gains: Gains) {
 // The sum of two bursts, in which the primary code's gain is 3 and the secondary codes' gain is 5.
 fn line_of_two(case: u32, g: u32, frame: u32, half: u32, g2: u32, frame2: u32, half2: u32) {
     let mut chips = signals::zeros();
-    let three = sync_codes::burst::allocated(case, CodeGroup(g), frame, half);
+    let three = codes::burst::allocated(case, CodeGroup(g), frame, half);
     signals::add_burst(&mut chips, 0, three, 3, 5);
-    let other = sync_codes::burst::allocated(case, CodeGroup(g2), frame2, half2);
+    let other = codes::burst::allocated(case, CodeGroup(g2), frame2, half2);
     signals::add_burst(&mut chips, 0, other, 3, 5);
     let digest = signals::digest_of(&chips, 256);
     let row = Row(case, g, frame, half, g2, frame2, half2, digest, 0, 0);
@@ -118,5 +118,5 @@ pub fn answer(x: Row, chips: &Chips) {
 fn read_sync(x: Row, chips: &[i32]) -> SyncAnswer {
     let re = signals::part(chips, 0, x.5);
     let im = signals::part(chips, IM, x.6);
-    sync_analyser::read_sync(x.4, re, im)
+    read_sync::read_sync(x.4, re, im)
 }

@@ -1,14 +1,14 @@
 // Find, in recordings of noise and of bursts.
 use crate::rows;
 use code_text::print;
+use find::FindAnswer;
+use find::Peak;
 use signals::Chips;
 use signals::IM;
 use signals::buffers;
 use signals::form;
 use signals::form::Row;
 use signals::kinds::Kind;
-use sync_analyser::FindAnswer;
-use sync_analyser::Peak;
 use text::complement::not_negative_wide;
 
 pub fn all() {
@@ -45,7 +45,7 @@ pub fn answer(x: Row, chips: &Chips) {
 }
 
 fn find(x: Row, chips: &[i32], sumre: &mut [i32], sumim: &mut [i32]) -> FindAnswer {
-    sync_analyser::find(
+    find::find(
         signals::part(chips, 0, x.3),
         signals::part(chips, IM, x.4),
         buffers::first(sumre, x.5),

@@ -1,7 +1,7 @@
 -- What a call's refusal tests say of its answer and bench, and of the numbers that they let pass. Assumes nothing.
 use mathlib.Core.Path.{_≡_, sym, ap, subst, _∙_}
 use mathlib.Core.Logic.{_≢_}
-use mathlib.Core.Bool.{true, false, not, _&&_}
+use mathlib.Core.Bool.{false, not, _&&_}
 use mathlib.Core.List.{List, _∷_, _++_}
 use Prim.Native.Nat.{ℕ, _≤_, _<_}
 use borrow.Author.Tests.{lt-ltb, leb-false, not-false}
@@ -10,12 +10,13 @@ use mir.Facts.{and-yes, fits-below}
 use mir.Syntax.{w16}
 use mir.Val.{Fits}
 use Rattle.codes.specs.Refusals.{refused, gives, Refusal, _otherwise_, outcome, number, _if_}
-use Rattle.codes.specs.Tree.{is-code, is-spreading-factor}
+use Rattle.codes.specs.Tree.{is-spreading-factor}
 use Rattle.codes.proofs.Refused.{numbered, Passed, passed, accepted, not-accepted, refused-early, passed-early}
 use Rattle.codes.proofs.Factors.{factor-range}
 use Rattle.bench.specs.Held.{code-refusals}
 use Rattle.bench.specs.declared.Bench.{Bench}
 use Rattle.bench.specs.BenchCalls.{bad-gain, left-by}
+use Rattle.tables.proofs.Blocks.{Code}
 
 -- ---- the two ways of a call whose tests found number n: it refuses and the bench stays, or it accepts and leaves the new bench
 module _ (rs : List Refusal) (b new : Bench) {n : ℕ} (e : n ≡ number rs) where
@@ -41,13 +42,6 @@ module _ (rs : List Refusal) {n : ℕ} (e : n ≡ number rs) where
   passed-first qs t z = passed-early rs qs (passed-all t z)
 
 -- ---- what 3 and 4 let pass: the first tests of each call that takes a code
--- what the callees ask of a code, and the tables of `view`
-pub record Code (Q k : ℕ) : Type 0 where
-  pub factor : is-spreading-factor Q ≡ true
-  pub below : k < Q
-  pub small : Q ≤ 16
-  pub listed : is-code Q k ≡ true
-
 pub good-code : (Q k : ℕ) → not (is-spreading-factor Q) ≡ false → leb Q k ≡ false → Code Q k
 good-code Q k e f =
     let q = not-false (is-spreading-factor Q) e in

@@ -1,32 +1,24 @@
 -- The bits that the refusal tests of `load_bits` let through. Assumes nothing.
-use mathlib.Core.Path.{_≡_, sym, _∙_, subst}
-use mathlib.Core.Logic.{_≢_}
-use mathlib.Core.Bool.{Bool, true, false, true≢false}
+use mathlib.Core.Path.{_≡_, sym, subst}
+use mathlib.Core.Bool.{Bool, true, false}
 use mathlib.Core.List.{List}
-use Prim.Native.Nat.{ℕ, suc, _+_, _*_, _-_, _%_, _<_, _≤_}
+use Prim.Native.Nat.{ℕ, suc, _-_, _%_, _<_}
 use native.Mathlib.Decide.{decLt}
 use native.Mathlib.Nat.{zero-div}
 use native.Mathlib.Omega.{arith}
-use borrow.Author.Tests.{ltb-false, eqb-true, not-false}
-use lib.Dec.{T, eqb, eqb→eq, ltb}
-use lib.ListN.{length, getD, List·getD-eq-default}
+use borrow.Author.Tests.{eqb-true, not-false}
+use lib.Dec.{T, eqb, eqb→eq}
+use lib.ListN.{length}
 use Rattle.codes.specs.Range.{each}
-use Rattle.codes.specs.Tree.{is-spreading-factor, width}
-use Rattle.codes.proofs.Leaves.{each-code, at-code, no-width, leaves-within}
+use Rattle.codes.specs.Tree.{is-spreading-factor}
+use Rattle.codes.proofs.Leaves.{each-code, at-code}
 use Rattle.codes.proofs.Refused.{Passed}
-use Rattle.codes.proofs.Tests.{each-at, none-at}
+use Rattle.codes.proofs.Tests.{each-at}
 use Rattle.slot.specs.Setup.{Setup}
 use Rattle.slot.specs.Slot.{bit-count, burst-type}
 use Rattle.bench.proofs.Accepted.{good-code}
-use Rattle.bench.specs.BenchCalls.{has-byte-above-1, load-bits-refusals}
-
--- where no byte is above 1, each is a bit; so is what stands past the end
-pub is-bit : (bits : List ℕ) → has-byte-above-1 bits ≡ false → (n : ℕ) → getD bits n 0 ≤ 1
-is-bit bits e n = go (decLt n (length bits))
-  where
-    go : Dec (n < length bits) → getD bits n 0 ≤ 1
-    go (yes l) = ltb-false 1 (getD bits n 0) (none-at (length bits) (λ i. ltb 1 (getD bits i 0)) e n l)
-    go (no l) = rw (List·getD-eq-default bits 0 {n = n} (omega arith)) (omega arith)
+use Rattle.tables.specs.Bits.{has-byte-above-1}
+use Rattle.bench.specs.BenchCalls.{load-bits-refusals}
 
 -- ---- a code
 -- it has an even count of bits in every burst type
@@ -40,14 +32,6 @@ counts-test = tt
 module _ (Q k : ℕ) (t : is-spreading-factor Q ≡ true) (h : k < Q) where
   factor : T (is-spreading-factor Q)
   factor = subst T (sym t) tt
-
-  -- it has pairs in each block, all inside the block
-  pub pairs-in-block : (0 < width Q) × (k * width Q + width Q ≤ 16)
-  pairs-in-block = (some (decLt 0 (width Q)), leaves-within Q k h)
-    where
-      some : Dec (0 < width Q) → 0 < width Q
-      some (yes l) = l
-      some (no l) = absurd (true≢false (sym t ∙ no-width Q (omega arith)))
 
   even-count : (type : ℕ) → bit-count type Q % 2 ≡ 0
   unfolding counts burst-type

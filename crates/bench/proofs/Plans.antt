@@ -23,10 +23,11 @@ use Rattle.bench.specs.declared.Planned.{Planned}
 use Rattle.bench.specs.declared.taken.Taken.{Taken}
 use Rattle.bench.specs.BenchCalls.{AnswerAt, bad-gain, fresh-settings, load-plan-call, open-refusals, opened-in-turn, plan-left-by, plan-outcome, refused-at, some-code, told-plan}
 use Rattle.bench.specs.Changes.{with-bits, with-gain, with-gains, with-pairs, with-settings}
-use Rattle.bench.specs.Held.{clashes, is-leaf-open, with-open-cleared}
+use Rattle.bench.specs.Held.{clashes}
+use Rattle.tables.specs.Held.{is-leaf-open, with-open-cleared}
 use Rattle.bench.specs.Taken.{all-opened, gains-after, none-taken, open-number, settled, with-opened, with-record, with-records}
 use Rattle.bench.proofs.Accepted.{gain-range, good-code}
-use Rattle.bench.proofs.Cleared.{one-more-open}
+use Rattle.tables.proofs.Cleared.{one-more-open}
 use Rattle.bench.proofs.Opened.{related-in-gains}
 
 -- what the contract of a load says of its result r: a is the answer, and b the bench that it took

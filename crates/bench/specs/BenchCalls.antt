@@ -3,14 +3,14 @@
 use Prim.Native.Nat.{ℕ, suc, _+_, _-_, min}
 use mathlib.Core.List.{List, [], _∷_}
 use mathlib.Core.Bool.{Bool, not, _&&_, _||_, cond}
-use lib.Dec.{eqb, leb, ltb}
-use lib.ListN.{length, getD, replicate}
+use lib.Dec.{eqb, leb}
+use lib.ListN.{length, replicate}
 use Rattle.complex.specs.Buffers.{Values, in-buffers}
 use Rattle.codes.specs.declared.CellParameter.{CellParameter}
 use Rattle.codes.specs.Range.{any}
 use Rattle.codes.specs.Refusals.{Answer, refused, gives, Refusal, _if_, _otherwise_, after}
 use Rattle.codes.specs.Tree.{among, is-spreading-factor, related}
-use Rattle.sync_codes.specs.Allocation.{one-or-two, is-frame-and-half}
+use Rattle.codes.specs.Allocation.{one-or-two, is-frame-and-half}
 use Rattle.slot.specs.declared.Settings.{Settings}
 use Rattle.slot.specs.Setup.{Setup, is-open}
 use Rattle.slot.specs.Slot.{slot-length, bit-count, chip}
@@ -24,6 +24,7 @@ use Rattle.bench.specs.declared.PlanAnswer.the-variants.{Loaded, Refused
 use Rattle.bench.specs.declared.DrawAnswer.{DrawAnswer}
 use Rattle.bench.specs.declared.DrawAnswer.the-variants.{Drew, Refused as NotDrawn}
 use Rattle.bench.specs.Changes.{with-gain, with-bits, with-sync, no-sync, closed, all-closed, with-settings}
+use Rattle.tables.specs.Bits.{has-byte-above-1}
 
 -- "the air: no slot, or a copy of the settings with a position": the copy is `sending`, and counts while `running` is not 0
 abbrev pub under-way : Bench → Bool
@@ -106,10 +107,6 @@ set-gain-refusals s Q k g = 3 if not (is-spreading-factor Q) ∷ 4 if leb Q k �
 
 abbrev pub set-gain-call : Bench → ℕ → ℕ → ℕ → Answer Bench
 set-gain-call b Q k g = set-gain-refusals (view (b .settings)) Q k g otherwise with-settings b (with-gain (b .settings) Q k g)
-
--- "a byte above 1"
-abbrev pub has-byte-above-1 : List ℕ → Bool
-has-byte-above-1 bits = any (length bits) (λ i. ltb 1 (getD bits i 0))
 
 -- Load bits (Q, k, one byte a bit). Refuses 3; 4; 7; 8 count not as above; 9 a byte above 1.
 abbrev pub load-bits-refusals : Setup → ℕ → ℕ → List ℕ → List Refusal

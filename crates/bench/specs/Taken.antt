@@ -14,7 +14,7 @@ use Rattle.bench.specs.declared.Channel.{Channel}
 use Rattle.bench.specs.declared.taken.Taken.{Taken}
 use Rattle.bench.specs.BenchCalls.{AnswerAt, refused-at, loads, fresh-settings, open-refusals}
 use Rattle.bench.specs.Changes.{with-gains, with-pairs, with-settings}
-use Rattle.bench.specs.Held.{with-open-cleared}
+use Rattle.tables.specs.Held.{with-open-cleared}
 
 -- every record so far was opened, which made these gains
 abbrev pub all-opened : List ℕ → Taken

@@ -14,10 +14,11 @@ use codes::CellParameter;
 use slot::Settings;
 use slot::Sync;
 use slot::field;
+use tables::gains::with_gain;
+use tables::pairs::clear_open;
+use tables::pairs::set_bits;
 
-pub mod bits;
 mod refusals;
-mod tables;
 mod taken;
 
 // `settings` are what the calls change. While `running` is not 0 a slot is under way: `sending` is the copy of the settings made at its
@@ -195,10 +196,10 @@ impl Bench {
         let mut pairs = s.pairs;
         let number = refusals::open(&gains, q, k, gain);
         if number == 0 {
-            gains = tables::with_gain(gains, q, k, gain);
+            gains = with_gain(gains, q, k, gain);
             // The gains of a bench that has this code alone.
-            let alone = tables::with_gain([0u16; 31], q, k, 1);
-            tables::clear_open(&mut pairs, &alone);
+            let alone = with_gain([0u16; 31], q, k, 1);
+            clear_open(&mut pairs, &alone);
         }
         Answered {
             answer: answer(number),
@@ -248,7 +249,7 @@ impl Bench {
         let mut gains = s.gains;
         let number = refusals::close(&gains, q, k);
         if number == 0 {
-            gains = tables::with_gain(gains, q, k, 0);
+            gains = with_gain(gains, q, k, 0);
         }
         let pairs = s.pairs;
         Answered {
@@ -266,7 +267,7 @@ impl Bench {
         let mut gains = s.gains;
         let number = refusals::set_gain(&gains, q, k, gain);
         if number == 0 {
-            gains = tables::with_gain(gains, q, k, gain);
+            gains = with_gain(gains, q, k, gain);
         }
         let kept = s.pairs;
         Answered {
@@ -286,7 +287,7 @@ impl Bench {
         let refusal = refusals::load_bits(&gains, s.kind, q, k, bits);
         // Nothing is written before every test has passed.
         if refusal == 0 {
-            tables::set_bits(&mut pairs, q, k, bits);
+            set_bits(&mut pairs, q, k, bits);
         }
         Answered {
             answer: answer(refusal),

@@ -11,14 +11,14 @@ ghost use Rattle.slot.specs.Slot.{bit-count};
 ghost use Rattle.slot.specs.Tables.{view};
 ghost use Rattle.bench.specs.BenchCalls.{bad-gain, close-refusals, draw-refusals, load-bits-refusals, open-refusals, set-cell-refusals, set-gain-refusals, set-sync-refusals, some-code};
 ghost use Rattle.bench.specs.Held.{clashes, code-refusals};
-use crate::bits::has_byte_above_1;
-use crate::tables::any_of_five;
-use crate::tables::is_open;
 use codes::CellParameter;
+use codes::burst;
 use codes::tree;
 use slot::Settings;
 use slot::parts;
-use sync_codes::burst;
+use tables::bits::has_byte_above_1;
+use tables::gains::any_of_five;
+use tables::gains::is_open;
 
 pub fn set_cell(cell: CellParameter, kind: u32) -> u32
     ensures { λ r. ⌜ r ≡ number (set-cell-refusals (cell .0) kind) ⌝ }

@@ -9,7 +9,8 @@ use crate::Channel;
 use crate::PlanAnswer;
 use crate::Planned;
 use crate::refusals;
-use crate::tables;
+use tables::gains::with_gain;
+use tables::pairs::clear_open;
 
 // `gains` are those of the codes that the records opened, up to the first that failed; `number` and `place` are that record's, and 0 while none
 // has. The records are tested against these gains alone, and the bench is built once, from the last of them.
@@ -57,7 +58,7 @@ impl Taken {
                 place: place,
             };
         }
-        let opened = tables::with_gain(gains, c.q, c.k, c.gain);
+        let opened = with_gain(gains, c.q, c.k, c.gain);
         Taken {
             gains: opened,
             number: 0,
@@ -75,7 +76,7 @@ impl Taken {
         let mut gains = s.gains;
         if self.number == 0 {
             gains = self.gains;
-            tables::clear_open(&mut pairs, &gains);
+            clear_open(&mut pairs, &gains);
         }
         Planned {
             answer: answer(self.number, self.place),

@@ -36,10 +36,10 @@ pub fn answer(call: Call, x: Arguments) {
         Call::Related => related(codes::related(x.0, x.1, x.2, x.3), b"yes", b"no"),
         Call::CodeGroup => group(codes::code_group(CellParameter(x.3))),
         Call::Scrambling => chip(codes::scrambling_chip(CellParameter(x.2), x.3)),
-        Call::Primary => chip(sync_codes::primary_chip(x.3)),
-        Call::Secondary => chip(sync_codes::secondary_chip(x.2, x.3)),
-        Call::Allocation => allocation(sync_codes::allocation(x.0, CodeGroup(x.1), x.2, x.3)),
-        Call::BurstStart => start(sync_codes::burst_start(CodeGroup(x.3))),
+        Call::Primary => chip(codes::primary_chip(x.3)),
+        Call::Secondary => chip(codes::secondary_chip(x.2, x.3)),
+        Call::Allocation => allocation(codes::allocation(x.0, CodeGroup(x.1), x.2, x.3)),
+        Call::BurstStart => start(codes::burst_start(CodeGroup(x.3))),
     }
 }
 
@@ -89,28 +89,28 @@ fn chip(answer: codes::ChipAnswer) {
     }
 }
 
-fn allocation(answer: sync_codes::AllocationAnswer) {
+fn allocation(answer: codes::AllocationAnswer) {
     match answer {
-        sync_codes::AllocationAnswer::Codes(three) => {
+        codes::AllocationAnswer::Codes(three) => {
             modulated(three.first);
             print::text(b" ");
             modulated(three.second);
             print::text(b" ");
             modulated(three.marker)
         }
-        sync_codes::AllocationAnswer::Refused(number) => refused(number),
+        codes::AllocationAnswer::Refused(number) => refused(number),
     }
 }
 
-fn modulated(code: sync_codes::ModulatedCode) {
+fn modulated(code: codes::ModulatedCode) {
     print::unit(code.unit);
     print::text(b"C");
     print::natural(code.code)
 }
 
-fn start(answer: sync_codes::StartAnswer) {
+fn start(answer: codes::StartAnswer) {
     match answer {
-        sync_codes::StartAnswer::Start(chip) => print::natural(chip),
-        sync_codes::StartAnswer::Refused(number) => refused(number),
+        codes::StartAnswer::Start(chip) => print::natural(chip),
+        codes::StartAnswer::Refused(number) => refused(number),
     }
 }

@@ -4,3 +4,5 @@ pub mod Rows
 pub mod Leaves
 pub mod Refused
 pub mod Factors
+pub mod Parts
+pub mod Allocations

@@ -20,6 +20,7 @@ use Rattle.codes.specs.Scrambling.{row, v, scrambling}
 use Rattle.codes.specs.Tree.{code}
 use Rattle.codes.specs.Range.{each}
 use Rattle.codes.proofs.Tests.{each-at, same, same→eq}
+use Rattle.codes.specs.SyncCodes.{a, a-signs, b, b-signs}
 
 -- the row has 16 signs, and each is read back from the binary number
 unfoldable pub reads-back : List ℤ → Bool
@@ -95,3 +96,20 @@ leaf-test = tt
 
 pub leaf-read-back : (x : ℕ) → x < 16 → (i : ℕ) → sign-bit (packed (code 16 x)) i ≡ code 16 x at i
 leaf-read-back x h = read-back (code 16 x) (each-at 16 (λ x. reads-back (code 16 x)) leaf-test x h)
+
+-- the sequences of the sync codes
+pub a-test : T (reads-back a)
+unfolding reads-back each same sign-bit _at_
+a-test = tt
+
+pub a-signs-test : T (reads-back a-signs)
+unfolding reads-back each same sign-bit _at_
+a-signs-test = tt
+
+pub b-test : T (reads-back b)
+unfolding reads-back each same sign-bit _at_
+b-test = tt
+
+pub b-signs-test : T (reads-back b-signs)
+unfolding reads-back each same sign-bit _at_
+b-signs-test = tt

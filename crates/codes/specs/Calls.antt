@@ -1,6 +1,6 @@
--- The unit's public calls, but for those on sync codes, which the crate `sync_codes` has. Document 01: "The unit's public calls refuse 3
--- and 4 for each code in turn, then 1 (also for a code group above 31), 14 and 15, as below, then 16 for a chip index past the code's end
--- or a sync code number not listed." Chip indices count from 0: scrambling chip 0 is the document's element 1.
+-- The unit's public calls. Document 01: "The unit's public calls refuse 3 and 4 for each code in turn, then 1 (also for a code group above
+-- 31), 14 and 15, as below, then 16 for a chip index past the code's end or a sync code number not listed." Chip indices count from 0:
+-- scrambling chip 0 is the document's element 1.
 use lib.IntN.{ℤ}
 use Prim.Native.Nat.{ℕ, _+_}
 use mathlib.Core.List.{[], _∷_}
@@ -18,6 +18,14 @@ use Rattle.codes.specs.declared.ChipAnswer.the-variants.{Chip, Refused a
 use Rattle.codes.specs.Refusals.{Answer, refused, gives, _if_, _otherwise_}
 use Rattle.codes.specs.Tree.{is-spreading-factor, element, related}
 use Rattle.codes.specs.Scrambling.{scrambling, code-group}
+use Rattle.codes.specs.declared.Allocated.{Allocated}
+use Rattle.codes.specs.declared.AllocationAnswer.{AllocationAnswer}
+use Rattle.codes.specs.declared.AllocationAnswer.the-variants.{Codes, Refused as NoAllocation}
+use Rattle.codes.specs.declared.StartAnswer.{StartAnswer}
+use Rattle.codes.specs.declared.StartAnswer.the-variants.{Start, Refused as NoStart}
+use Rattle.codes.specs.SyncCodes.{Cp, C, is-sync-code}
+use Rattle.codes.specs.Allocation.{allocation, one-or-two, is-frame-and-half}
+use Rattle.codes.specs.Burst.{burst-start}
 
 -- element of a channelisation code
 abbrev pub element-call : ℕ → ℕ → ℕ → Answer ℤ
@@ -36,6 +44,24 @@ code-group-call p = 1 if leb 128 p ∷ [] otherwise code-group p
 abbrev pub scrambling-call : ℕ → ℕ → Answer Complex
 scrambling-call p chip = 1 if leb 128 p ∷ 16 if leb 16 chip ∷ [] otherwise scrambling p (chip + 1)
 
+-- primary sync chip
+abbrev pub primary-call : ℕ → Answer Complex
+primary-call chip = 16 if leb 256 chip ∷ [] otherwise Cp chip
+
+-- secondary sync chip
+abbrev pub secondary-call : ℕ → ℕ → Answer Complex
+secondary-call i chip = 16 if not (is-sync-code i) ∷ 16 if leb 256 chip ∷ [] otherwise C i chip
+
+-- allocation: three code numbers, each with its unit
+abbrev pub allocation-call : ℕ → ℕ → ℕ → ℕ → Answer Allocated
+allocation-call case g frame half =
+    1 if leb 32 g ∷ 14 if not (one-or-two case) ∷ 15 if not (is-frame-and-half case frame half) ∷ []
+    otherwise allocation case g frame half
+
+-- burst start
+abbrev pub burst-start-call : ℕ → Answer ℕ
+burst-start-call g = 1 if leb 32 g ∷ [] otherwise burst-start g
+
 -- ---- document 01's number and values for each case of the calls' answers
 abbrev pub told-element : ElementAnswer → Answer ℤ
 told-element (Element s) = gives s
@@ -52,3 +78,11 @@ told-group (NoGroup n) = refused n
 abbrev pub told-chip : ChipAnswer → Answer Complex
 told-chip (Chip x) = gives x
 told-chip (NoChip n) = refused n
+
+abbrev pub told-allocation : AllocationAnswer → Answer Allocated
+told-allocation (Codes s) = gives s
+told-allocation (NoAllocation n) = refused n
+
+abbrev pub told-start : StartAnswer → Answer ℕ
+told-start (Start n) = gives n
+told-start (NoStart n) = refused n

@@ -1,13 +1,16 @@
 -- How the code holds rows of signs, and what the last arm of its `match`es knows. Nothing here is document 01's: the contracts of the
 -- public calls do not name it.
 use mathlib.Core.Path.{_≡_}
-use lib.IntN.{ℤ, pos, negsuc}
+use lib.IntN.{ℤ, pos, negsuc, negℤ, _*ℤ_}
 use Prim.Native.Nat.{ℕ, zero, suc, _+_, _*_, _-_, _/_, _%_, _^_}
 use mathlib.Core.List.{List, [], _∷_, map}
 use mathlib.Core.Bool.{cond}
 use lib.Dec.{eqb, ltb}
-use Rattle.codes.specs.Signs.{minus-if}
+use Rattle.codes.specs.Signs.{minus-if, _at_}
 use Rattle.codes.specs.Tree.{code}
+use lib.Bits.{bitAnd}
+use lib.Count.{ones}
+use Rattle.codes.specs.SyncCodes.{b-signs}
 
 -- a row of signs as a binary number, the first sign first, 1 for 1 and 0 for -1
 abbrev pub digit : ℤ → ℕ
@@ -25,6 +28,10 @@ packed l = packed-after 0 l
 unfoldable pub sign-bit : ℕ → ℕ → ℤ
 sign-bit row i = cond (ltb 15 i) (pos 0) (minus-if (eqb (row / 2 ^ (15 - i) % 2) 0))
 
+-- s, with the sign of the conjugate of j^(i+1), which is -j, -1, j, 1 by turns
+unfoldable pub signed-by-j : ℤ → ℕ → ℤ
+signed-by-j s i = cond (ltb (i % 4) 2) (negℤ s) s
+
 -- the n numbers from k on
 abbrev pub from : ℕ → ℕ → List ℕ
 from k zero = []
@@ -33,6 +40,11 @@ from k (suc n) = k ∷ from (suc k) n
 -- the sixteen codes of Q 16
 abbrev pub leaf-rows : List ℕ
 leaf-rows = map (λ x. packed (code 16 x)) (from 0 16)
+
+-- the signs of z over its sixteen parts times those of row 16i of the Hadamard matrix (`hadamard-part-is`): where secondary code i is listed,
+-- the signs of its parts; 0 where i is above 15
+unfoldable pub secondary-row : ℕ → ℕ
+secondary-row i = cond (ltb i 16) (packed (map (λ m. b-signs at m *ℤ minus-if (eqb (ones (bitAnd i m) % 2) 1)) (from 0 16))) 0
 
 -- ---- the last arm of a `match` on x
 -- beside A, x is none of the numbers

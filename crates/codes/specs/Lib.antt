@@ -3,6 +3,9 @@ pub mod Signs
 pub mod Tree
 pub mod AnnexA
 pub mod Scrambling
+pub mod SyncCodes
+pub mod Allocation
+pub mod Burst
 pub mod Refusals
 pub mod Calls
 pub mod Held

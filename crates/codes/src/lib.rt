@@ -1,13 +1,15 @@
-// The code rules of TS 25.223 V3.3.0 as a unit of their own: channelisation codes and scrambling codes here, sync codes
-// in the crate `sync_codes`. The four calls here take any numbers and refuse by document 01's number. The modules hold
-// the functions that the crates above call for each chip or block: they are total, and give 0 outside their range
-// (`group_of`: p div 4).
+// The code rules of TS 25.223 V3.3.0 as a unit of their own: channelisation codes, scrambling codes, sync codes, which of
+// them a code group sends, and where its burst starts. The eight calls take any numbers and refuse by document 01's number.
+// The modules hold the functions that the crates above call for each chip or block: they are total, and give 0 outside
+// their range (`group_of`: p div 4).
 ghost use mathlib.Core.Path.{_≡_};
-ghost use Rattle.codes.specs.Calls.{element-call, related-call, code-group-call, scrambling-call, told-element, told-related, told-group, told-chip};
+ghost use Rattle.codes.specs.Calls.{element-call, related-call, code-group-call, scrambling-call, told-element, told-related, told-group, told-chip, primary-call, secondary-call, allocation-call, burst-start-call, told-allocation, told-start};
 use complex::Complex;
 
+pub mod burst;
 pub mod scrambling;
 pub mod signs;
+pub mod sync;
 pub mod tree;
 
 // Named as in the standard's mapping table (table 6): a cell parameter, 0 to 127, and a code group, 0 to 31.
@@ -33,6 +35,31 @@ pub enum GroupAnswer {
 
 pub enum ChipAnswer {
     Chip(Complex),
+    Refused(u32),
+}
+
+// A secondary sync code's number with the unit that modulates it.
+#[repr(C)]
+pub struct ModulatedCode {
+    pub code: u32,
+    pub unit: Complex,
+}
+
+// The three codes that a code group sends beside the primary code: the pair, then the marker.
+#[repr(C)]
+pub struct Allocated {
+    pub first: ModulatedCode,
+    pub second: ModulatedCode,
+    pub marker: ModulatedCode,
+}
+
+pub enum AllocationAnswer {
+    Codes(Allocated),
+    Refused(u32),
+}
+
+pub enum StartAnswer {
+    Start(u32),
     Refused(u32),
 }
 
@@ -92,4 +119,54 @@ pub fn scrambling_chip(cell: CellParameter, chip: u32) -> ChipAnswer
         return ChipAnswer::Refused(16);
     }
     ChipAnswer::Chip(scrambling::element(cell, chip))
+}
+
+// Chip `chip`, from 0, of the primary sync code. Refuses 16 chip past the end.
+pub fn primary_chip(chip: u32) -> ChipAnswer
+    ensures { λ r. ⌜ told-chip r ≡ primary-call chip ⌝ }
+{
+    if 256 <= chip {
+        return ChipAnswer::Refused(16);
+    }
+    ChipAnswer::Chip(sync::primary(chip))
+}
+
+// Chip `n`, from 0, of secondary sync code `number`. Refuses 16 for a number not listed or a chip past the end.
+pub fn secondary_chip(number: u32, n: u32) -> ChipAnswer
+    ensures { λ r. ⌜ told-chip r ≡ secondary-call number n ⌝ }
+{
+    if !sync::is_sync_code(number) {
+        return ChipAnswer::Refused(16);
+    }
+    if 256 <= n {
+        return ChipAnswer::Refused(16);
+    }
+    ChipAnswer::Chip(sync::secondary(number, n))
+}
+
+// The three codes that a group sends in a frame, 1 or 2, and a half, 0 for slot k and 1 for slot k+8.
+// Refuses 1 group above 31; 14 case not 1 or 2; 15 frame not 1 or 2, half above 1, or half 1 in case 1.
+pub fn allocation(case: u32, group: CodeGroup, frame: u32, half: u32) -> AllocationAnswer
+    ensures { λ r. ⌜ told-allocation r ≡ allocation-call case (group .0) frame half ⌝ }
+{
+    if 32 <= group.0 {
+        return AllocationAnswer::Refused(1);
+    }
+    if !burst::one_or_two(case) {
+        return AllocationAnswer::Refused(14);
+    }
+    if !burst::is_frame_and_half(case, frame, half) {
+        return AllocationAnswer::Refused(15);
+    }
+    AllocationAnswer::Codes(burst::allocated(case, group, frame, half))
+}
+
+// The chip of the slot at which a group's burst starts. Refuses 1 group above 31.
+pub fn burst_start(g: CodeGroup) -> StartAnswer
+    ensures { λ r. ⌜ told-start r ≡ burst-start-call (g .0) ⌝ }
+{
+    if 32 <= g.0 {
+        return StartAnswer::Refused(1);
+    }
+    StartAnswer::Start(burst::start_of(g))
 }

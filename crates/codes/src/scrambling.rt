@@ -1,7 +1,8 @@
 // Scrambling codes and code groups.
 ghost use mathlib.Core.Path.{_≡_};
 ghost use Prim.Native.Nat.{_+_};
-ghost use Rattle.codes.specs.Held.{packed, NoneOf, from};
+ghost use Rattle.complex.specs.Fits.{Within};
+ghost use Rattle.codes.specs.Held.{packed, NoneOf, from, signed-by-j};
 ghost use Rattle.codes.specs.Scrambling.{code-group, row, scrambling, v};
 use crate::CellParameter;
 use crate::CodeGroup;
@@ -169,6 +170,14 @@ pub fn sign(p: CellParameter, i: u32) -> i32
         return 0;
     }
     sign_at(annex_row(p), i)
+}
+
+// s, with the sign of the conjugate of j^(i+1), which is -j, -1, j, 1 by turns.
+pub fn signed_by_j(s: i32, i: u32) -> i32
+    requires { ⌜ Within 1 s ⌝ }
+    ensures { λ r. ⌜ r ≡ signed-by-j s i ⌝ }
+{
+    if i % 4 < 2 { -s } else { s }
 }
 
 // Element i, from 0, of the complex scrambling code; 0 outside its range.

@@ -10,12 +10,13 @@ use Rattle.complex.specs.Arithmetic.{real, _⊕_, _⊗_, conj}
 use Rattle.complex.proofs.Integers.{ring, *ℤ-negℤ, *ℤ-+ℤ}
 use Rattle.complex.proofs.Ring.{real-zero, products, ⊗-assoc, ⊕-⊗, ⊗-⊕, ⊗-𝟎, ⊕-𝟎, 𝟎-⊕, conj-⊗, conj-real, real-*ℤ, real-⊗}
 use Rattle.complex.proofs.Sums.{Σ-cong, Σ-⊕, ⊗-Σ}
-use Rattle.sync_codes.specs.declared.ModulatedCode.{ModulatedCode}
-use Rattle.sync_codes.specs.declared.Allocated.{Allocated}
-use Rattle.sync_codes.specs.SyncCodes.{Cp}
-use Rattle.sync_codes.specs.Burst.{secondaries}
-use Rattle.sync_codes.proofs.Allocations.{Known, AllKnown}
-use Rattle.sync_analyser.specs.SyncReading.{correlation, S, P, share, total-share}
+use Rattle.codes.specs.declared.ModulatedCode.{ModulatedCode}
+use Rattle.codes.specs.declared.Allocated.{Allocated}
+use Rattle.codes.specs.SyncCodes.{Cp}
+use Rattle.codes.specs.Burst.{secondaries}
+use Rattle.codes.proofs.Allocations.{Known, AllKnown}
+use Rattle.analyser_parts.specs.Correlation.{correlation, S, P}
+use Rattle.read_sync.specs.SyncReading.{share, total-share}
 use Rattle.demands.proofs.SyncOrthogonality.{sync-code, has-code, overlap, orthogonal}
 
 -- ---- a correlation is linear in the chips

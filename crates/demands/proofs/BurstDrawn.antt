@@ -12,11 +12,11 @@ use Rattle.complex.proofs.Ring.{𝟎-⊕, ⊕-𝟎}
 use Rattle.complex.proofs.Sums.{Σ-𝟎}
 use Rattle.codes.specs.Refusals.{gives}
 use Rattle.codes.specs.Scrambling.{code-group}
-use Rattle.sync_codes.specs.Burst.{burst, burst-start}
+use Rattle.codes.specs.Burst.{burst, burst-start}
 use Rattle.slot.specs.Setup.{SyncSetup, Setup}
 use Rattle.slot.specs.Slot.{over-codes, channel-chip, data-chip, sync-chip, chip, burst-type}
 use Rattle.slot.proofs.BurstPlace.{burst-whole, without-sync}
-use Rattle.sync_analyser.specs.SyncReading.{of-group, read-sync-call}
+use Rattle.read_sync.specs.SyncReading.{of-group, read-sync-call}
 use Rattle.demands.specs.Slots.{Slot}
 use Rattle.demands.specs.Fields.{Drawn, chips-from}
 use Rattle.demands.proofs.BurstReadBack.{burst-read-back}

@@ -14,11 +14,11 @@ use lib.Signed.{ltZ}
 use Rattle.complex.specs.Arithmetic.{real, 𝟏, 𝐣, _⊗_}
 use Rattle.codes.specs.Range.{each}
 use Rattle.codes.proofs.Tests.{each-at, same, same→eq, T-true}
-use Rattle.sync_codes.specs.declared.Allocated.{Allocated}
-use Rattle.sync_codes.specs.Allocation.{allocation, one-or-two, is-frame-and-half, case-1, case-2, signed, row, code-set}
-use Rattle.sync_codes.proofs.Allocations.{AllKnown, allocation-known}
-use Rattle.sync_analyser.specs.declared.Candidate.{Candidate}
-use Rattle.sync_analyser.specs.SyncReading.{of-group, candidate, candidates, sent}
+use Rattle.codes.specs.declared.Allocated.{Allocated}
+use Rattle.codes.specs.Allocation.{allocation, one-or-two, is-frame-and-half, case-1, case-2, signed, row, code-set}
+use Rattle.codes.proofs.Allocations.{AllKnown, allocation-known}
+use Rattle.read_sync.specs.declared.Candidate.{Candidate}
+use Rattle.read_sync.specs.SyncReading.{of-group, candidate, candidates, sent}
 use Rattle.demands.proofs.BurstCorrelations.{along, match, heard, agreement}
 
 one-or-other : (F : ℕ → Type 0) → F 1 → F 2 → (n : ℕ) → T (one-or-two n) → F n

@@ -8,10 +8,10 @@ use lib.ListN.{length}
 use denote.Ref.{now}
 use Rattle.complex.specs.Buffers.{Values, written}
 use Rattle.codes.specs.Refusals.{Answer, gives, outcome, after}
-use Rattle.analyser.specs.Reading.{read-call}
-use Rattle.analyser.specs.Hardening.{harden-call}
-use Rattle.sync_analyser.specs.declared.Candidate.{Candidate}
-use Rattle.sync_analyser.specs.SyncReading.{read-sync-call}
+use Rattle.read.specs.Reading.{read-call}
+use Rattle.harden.specs.Hardening.{harden-call}
+use Rattle.read_sync.specs.declared.Candidate.{Candidate}
+use Rattle.read_sync.specs.SyncReading.{read-sync-call}
 use Rattle.bench.specs.declared.Bench.{Bench}
 use Rattle.bench.specs.BenchCalls.{AnswerAt}
 use Rattle.demands.specs.Calls.{Call, Step, tell, tell-plan, tell-draw}

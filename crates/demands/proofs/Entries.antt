@@ -24,9 +24,8 @@ use Rattle.slot.specs.Slot.{data-chips, bit-count}
 use Rattle.slot.specs.Tables.{place, held-bit}
 use Rattle.slot.proofs.Lengths.{lengths-of}
 use Rattle.bench.specs.BenchCalls.{some-code}
-use Rattle.bench.specs.Changes.{owns, pair-number, pairs-with}
-use Rattle.bench.proofs.Accepted.{Code}
-use Rattle.bench.proofs.Loading.{pairs-in-block}
+use Rattle.tables.specs.Bits.{owns, pair-number, pairs-with}
+use Rattle.tables.proofs.Blocks.{Code, pairs-in-block}
 
 -- ---- codes
 pub code-of : (Q k : ℕ) → is-code Q k ≡ true → Code Q k

@@ -7,16 +7,16 @@ use lib.ListN.{length, take}
 use denote.Ref.{RefT}
 use Rattle.complex.specs.Buffers.{Values, written}
 use Rattle.codes.specs.Refusals.{Answer, refused, gives, outcome, after}
-use Rattle.analyser.specs.declared.ReadAnswer.{ReadAnswer}
-use Rattle.analyser.specs.declared.ReadAnswer.the-variants.{Read, Refused as NotRead}
-use Rattle.analyser.specs.declared.HardenAnswer.{HardenAnswer}
-use Rattle.analyser.specs.declared.HardenAnswer.the-variants.{Hardened, Refused as NotHardened}
-use Rattle.analyser.specs.Reading.{read-call, told-read}
-use Rattle.analyser.specs.Hardening.{harden-call, told-harden}
-use Rattle.sync_analyser.specs.declared.Candidate.{Candidate}
-use Rattle.sync_analyser.specs.declared.SyncAnswer.{SyncAnswer}
-use Rattle.sync_analyser.specs.declared.SyncAnswer.the-variants.{Burst, Refused as NotFound}
-use Rattle.sync_analyser.specs.SyncReading.{read-sync-call, told-sync}
+use Rattle.read.specs.declared.ReadAnswer.{ReadAnswer}
+use Rattle.read.specs.declared.ReadAnswer.the-variants.{Read, Refused as NotRead}
+use Rattle.harden.specs.declared.HardenAnswer.{HardenAnswer}
+use Rattle.harden.specs.declared.HardenAnswer.the-variants.{Hardened, Refused as NotHardened}
+use Rattle.read.specs.Reading.{read-call, told-read}
+use Rattle.harden.specs.Hardening.{harden-call, told-harden}
+use Rattle.read_sync.specs.declared.Candidate.{Candidate}
+use Rattle.read_sync.specs.declared.SyncAnswer.{SyncAnswer}
+use Rattle.read_sync.specs.declared.SyncAnswer.the-variants.{Burst, Refused as NotFound}
+use Rattle.read_sync.specs.SyncReading.{read-sync-call, told-sync}
 use Rattle.bench.specs.declared.Bench.{Bench}
 use Rattle.bench.specs.declared.PlanRecords.{PlanRecords}
 use Rattle.bench.specs.declared.Answered.{Answered}

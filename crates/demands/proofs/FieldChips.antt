@@ -19,8 +19,8 @@ use Rattle.complex.proofs.Lists.{length-listed, listed-at}
 use Rattle.codes.specs.Scrambling.{code-group}
 use Rattle.codes.specs.Tree.{among}
 use Rattle.codes.proofs.Factors.{of-all}
-use Rattle.sync_codes.specs.Burst.{burst, burst-start}
-use Rattle.sync_codes.proofs.Allocations.{allocation-known}
+use Rattle.codes.specs.Burst.{burst, burst-start}
+use Rattle.codes.proofs.Allocations.{allocation-known}
 use Rattle.slot.specs.declared.parts.Parts.{Parts}
 use Rattle.slot.specs.Setup.{SyncSetup, Setup}
 use Rattle.slot.specs.Slot.{burst-type, data-chip, sync-chip, chip}

@@ -21,10 +21,10 @@ use Rattle.complex.proofs.Sums.{Σ-cong, Σ-𝟎}
 use Rattle.codes.specs.Refusals.{Answer, gives}
 use Rattle.codes.specs.Scrambling.{scrambling, code-group}
 use Rattle.codes.specs.Tree.{is-code, element}
-use Rattle.sync_codes.specs.Burst.{burst-start}
+use Rattle.codes.specs.Burst.{burst-start}
 use Rattle.codes.proofs.Tests.{each-at, T-true}
-use Rattle.analyser.specs.Reading.{reading, read-call}
-use Rattle.analyser.proofs.Ranges.{none-outside}
+use Rattle.read.specs.Reading.{reading, read-call}
+use Rattle.analyser_parts.proofs.Ranges.{none-outside}
 use Rattle.slot.specs.Setup.{SyncSetup, Setup, is-some}
 use Rattle.slot.specs.Slot.{data-chip, sync-chip, chip}
 use Rattle.demands.specs.Slots.{Slot, InOrder}

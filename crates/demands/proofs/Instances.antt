@@ -8,13 +8,13 @@ use Rattle.codes.specs.Range.{each}
 use Rattle.codes.specs.Signs.{_at_}
 use Rattle.codes.specs.Tree.{element, at-or-above, related}
 use Rattle.codes.specs.Scrambling.{v, scrambling}
-use Rattle.sync_codes.specs.SyncCodes.{repeated, Cp, z, hadamard, is-sync-code, C}
-use Rattle.sync_codes.specs.Allocation.{code-set, row, signed, case-1, case-2, one-or-two, is-frame-and-half, allocation}
+use Rattle.codes.specs.SyncCodes.{repeated, Cp, z, hadamard, is-sync-code, C}
+use Rattle.codes.specs.Allocation.{code-set, row, signed, case-1, case-2, one-or-two, is-frame-and-half, allocation}
 use Rattle.modulation.specs.Symbols.{symbol}
 use Rattle.slot.specs.Slot.{burst-type, channel-chip, data-chip, sync-chip, chip}
-use Rattle.analyser.specs.Choice.{smallest-from, has-largest}
-use Rattle.analyser.specs.Reading.{reading}
-use Rattle.analyser.specs.Hardening.{pair-score, hard-pair, hard-bit}
+use Rattle.analyser_parts.specs.Choice.{smallest-from, has-largest}
+use Rattle.read.specs.Reading.{reading}
+use Rattle.harden.specs.Hardening.{pair-score, hard-pair, hard-bit}
 use Rattle.demands.specs.Reference.{with-channel}
 use Rattle.demands.specs.Instances.{Instance, table}
 

@@ -12,7 +12,7 @@ use Rattle.codes.specs.Tree.{element}
 use Rattle.codes.specs.Scrambling.{v, scrambling}
 use Rattle.codes.proofs.Rows.{v-within}
 use Rattle.codes.proofs.Leaves.{element-within}
-use Rattle.analyser.specs.Reading.{reading}
+use Rattle.read.specs.Reading.{reading}
 
 pub reading-additive : (p Q k : ℕ) (x y : ℕ → Complex) (n : ℕ) → reading p Q k (λ q. x q ⊕ y q) n ≡ reading p Q k x n ⊕ reading p Q k y n
 unfolding reading

@@ -17,8 +17,8 @@ use Rattle.codes.specs.Refusals.{gives}
 use Rattle.codes.specs.Tree.{is-code, related}
 use Rattle.slot.specs.Setup.{Channel, Setup, is-some, is-open}
 use Rattle.slot.specs.Slot.{data-chip, sync-chip, chip}
-use Rattle.analyser.specs.Components.{outside}
-use Rattle.analyser.proofs.Ranges.{none-outside}
+use Rattle.analyser_parts.specs.Components.{outside}
+use Rattle.analyser_parts.proofs.Ranges.{none-outside}
 use Rattle.demands.specs.Reference.{with-sync}
 use Rattle.demands.specs.Slots.{Slot}
 use Rattle.demands.specs.Fields.{Field, field-length, field-start, field-before, DrawnWhole, drawn-field, reading-count, Suffice, own-readings, unrelated, zero-readings, no-burst, burst-field, quiet-field, added}

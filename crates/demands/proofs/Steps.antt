@@ -25,7 +25,7 @@ use Rattle.bench.specs.declared.Channel.{Channel as Record}
 use Rattle.bench.specs.Changes as Tables
 use Rattle.bench.specs.BenchCalls.{under-way, fresh, set-cell-refusals, open-refusals, bad-gain, refused-at, opened-in-turn, close-refusals, set-gain-refusals, load-bits-refusals, set-sync-refusals, start-refusals, Draw, draw-refusals, moved-on}
 use Rattle.bench.proofs.Accepted.{good-code, gain-range}
-use Rattle.bench.proofs.Loading.{is-bit}
+use Rattle.tables.proofs.Blocks.{is-bit}
 use Rattle.demands.specs.Calls.{Call, set-cell, open-code, load-plan, close, set-gain, load-bits, set-sync, clear-sync, start, draw, drew, Step}
 use Rattle.demands.specs.Reference.{Reference, fresh-reference, opened, closed, gain-set, bits-loaded, with-sync, records-opened, under-way as copy-there, by-entry, by-plan, started, copy-chip, drawn, reference-step, fed}
 use Rattle.demands.specs.Runs.{Ran}

@@ -14,9 +14,9 @@ use Rattle.complex.proofs.Sums.{Σ-cong, Σ-blocks, ⊗-Σ, real-Σ}
 use Rattle.codes.specs.Signs.{_at_}
 use Rattle.codes.specs.Range.{each}
 use Rattle.codes.proofs.Tests.{each-at, same, same→eq}
-use Rattle.sync_codes.specs.SyncCodes.{a, a-signs, b, b-signs, Cp, C, hadamard, hadamard-part, is-sync-code}
-use Rattle.sync_codes.proofs.Parts.{Cp-parts, C-parts, sync-code-below}
-use Rattle.sync_analyser.specs.SyncReading.{correlation}
+use Rattle.codes.specs.SyncCodes.{a, a-signs, b, b-signs, Cp, C, hadamard, hadamard-part, is-sync-code}
+use Rattle.codes.proofs.Parts.{Cp-parts, C-parts, sync-code-below}
+use Rattle.analyser_parts.specs.Correlation.{correlation}
 
 -- ---- the thirteen codes by one number: 0 is Cp, 1 + i is Ci
 abbrev pub sync-code : ℕ → ℕ → Complex

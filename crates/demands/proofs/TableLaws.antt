@@ -22,7 +22,8 @@ use Rattle.slot.specs.Slot.{bit-count}
 use Rattle.slot.specs.Tables.{held-bit, held-channel, view-sync, view-channel, view}
 use Rattle.bench.specs.BenchCalls.{related-to-open}
 use Rattle.bench.specs.Changes as Tables
-use Rattle.bench.proofs.Accepted.{Code}
+use Rattle.tables.specs.Bits.{pairs-with}
+use Rattle.tables.proofs.Blocks.{Code}
 use Rattle.demands.specs.Reference.{cell-set, with-channel, opened, closed, changed, gain-set, bits-loaded, with-sync, nothing-open}
 use Rattle.demands.proofs.Entries.{code-of, no-code-passes, node-below, same-node, own-bit, other-bit}
 
@@ -149,13 +150,13 @@ module _ (s : Settings) (gains : length (s .gains) ≡ 31) (Q k : ℕ) (c : is-c
 
   -- the bits written for the code are its own
   own-bits : (bits new : List ℕ) → ((i : ℕ) → getD bits i 0 ≤ 1) → length new ≡ bit-count (s .kind) Q
-      → ((i : ℕ) → i < bit-count (s .kind) Q → getD bits i 0 ≡ getD new i 0) → bits-in (Tables.pairs-with (s .pairs) Q k bits) Q k ≡ new
+      → ((i : ℕ) → i < bit-count (s .kind) Q → getD bits i 0 ≡ getD new i 0) → bits-in (pairs-with (s .pairs) Q k bits) Q k ≡ new
   own-bits bits new b l h =
       all-listed (bit-count (s .kind) Q) _ new l (λ i m. own-bit (s .pairs) Q k own bits (s .kind) i b m ∙ h i m)
 
   -- and not those of others, which are unrelated
   others-stay : (bits : List ℕ) → ((Q′ k′ : ℕ) → Other Q′ k′ → is-open (view s) Q′ k′ ≡ true → related Q′ k′ Q k ≡ false)
-      → OthersStay (Tables.pairs-with (s .pairs) Q k bits)
+      → OthersStay (pairs-with (s .pairs) Q k bits)
   others-stay bits h Q′ k′ d o =
       listed-cong (bit-count (s .kind) Q′) _ _
       (λ i l. other-bit (s .pairs) Q k own bits (s .kind) i Q′ k′ (open-is-code s Q′ k′ o) (h Q′ k′ d o) l)
@@ -164,7 +165,7 @@ module _ (s : Settings) (gains : length (s .gains) ≡ 31) (Q k : ℕ) (c : is-c
   unfolding view
   view-opened g d r =
       let n = bit-count (s .kind) Q in
-      changed-to g (Tables.pairs-with (s .pairs) Q k []) _
+      changed-to g (pairs-with (s .pairs) Q k []) _
       (ap (held-channel g) (own-bits [] (replicate n 0) (λ i. omega arith) (length-replicate n 0) (λ i _. sym (zero-at n i))) ∙ some-held g _ d)
       (others-stay [] (λ Q′ k′ _ o. rw o at (no-code-passes (λ Q′ k′. is-open (view s) Q′ k′ && related Q′ k′ Q k) r Q′ k′ (open-is-code s Q′ k′ o))))
 
@@ -179,7 +180,7 @@ module _ (s : Settings) (gains : length (s .gains) ≡ 31) (Q k : ℕ) (c : is-c
       → ((i : ℕ) → getD bits i 0 ≤ 1) → view (Tables.with-bits s Q k bits) ≡ bits-loaded (view s) Q k bits
   unfolding view view-channel
   view-bits-loaded bits o u l b =
-      let new = Tables.pairs-with (s .pairs) Q k bits in
+      let new = pairs-with (s .pairs) Q k bits in
       let g = getD (s .gains) (node Q k) 0 in
       sym (ap (λ (gains : List ℕ). view (Tables.with-pairs (Tables.with-gains s gains) new)) (set-getD (s .gains) (node Q k) 0))
       ∙ changed-to g new _ (ap (held-channel g) (own-bits bits bits b l (λ i _. refl)) ∙ rw c (reloaded g _ bits))

@@ -13,12 +13,12 @@ use Rattle.complex.proofs.Lists.{take-written}
 use Rattle.codes.specs.Refusals.{Answer, gives}
 use Rattle.codes.specs.Tree.{is-code}
 use Rattle.codes.specs.Scrambling.{code-group}
-use Rattle.sync_codes.specs.Burst.{burst-start}
+use Rattle.codes.specs.Burst.{burst-start}
 use Rattle.slot.specs.Setup.{Channel, SyncSetup, Setup}
-use Rattle.analyser.specs.Components.{outside}
-use Rattle.analyser.specs.Hardening.{harden-call}
-use Rattle.sync_analyser.specs.declared.Candidate.{Candidate}
-use Rattle.sync_analyser.specs.SyncReading.{of-group}
+use Rattle.analyser_parts.specs.Components.{outside}
+use Rattle.harden.specs.Hardening.{harden-call}
+use Rattle.read_sync.specs.declared.Candidate.{Candidate}
+use Rattle.read_sync.specs.SyncReading.{of-group}
 use Rattle.bench.specs.declared.Bench.{Bench}
 use Rattle.bench.specs.BenchCalls.{fresh}
 use Rattle.demands.specs.Calls.{Call, draw, refused-by, Step}

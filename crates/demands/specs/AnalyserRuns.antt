@@ -6,16 +6,16 @@ use contract.Lifetimes.{Lfts}
 use denote.Ref.{RefT, now}
 use Rattle.complex.specs.Buffers.{Values, written}
 use Rattle.codes.specs.Refusals.{Answer, gives}
-use Rattle.analyser.specs.declared.ReadAnswer.{ReadAnswer}
-use Rattle.analyser.specs.declared.HardenAnswer.{HardenAnswer}
-use Rattle.analyser.specs.Reading.{told-read}
-use Rattle.analyser.specs.Hardening.{told-harden}
-use Rattle.analyser.proofs.read.Reads as read-contract
-use Rattle.analyser.proofs.harden.Reads as harden-contract
-use Rattle.sync_analyser.specs.declared.Candidate.{Candidate}
-use Rattle.sync_analyser.specs.declared.SyncAnswer.{SyncAnswer}
-use Rattle.sync_analyser.specs.SyncReading.{told-sync}
-use Rattle.sync_analyser.proofs.read_sync.Reads as read-sync-contract
+use Rattle.read.specs.declared.ReadAnswer.{ReadAnswer}
+use Rattle.harden.specs.declared.HardenAnswer.{HardenAnswer}
+use Rattle.read.specs.Reading.{told-read}
+use Rattle.harden.specs.Hardening.{told-harden}
+use Rattle.read.proofs.read.Reads as read-contract
+use Rattle.harden.proofs.harden.Reads as harden-contract
+use Rattle.read_sync.specs.declared.Candidate.{Candidate}
+use Rattle.read_sync.specs.declared.SyncAnswer.{SyncAnswer}
+use Rattle.read_sync.specs.SyncReading.{told-sync}
+use Rattle.read_sync.proofs.read_sync.Reads as read-sync-contract
 
 -- what a function answered, and what it left in the buffers that it was lent to write to
 pub record Output (B : Type 0) : Type 0 where

@@ -13,7 +13,7 @@ use Rattle.complex.specs.Buffers.{value, Values, in-buffers}
 use Rattle.codes.specs.Range.{each}
 use Rattle.codes.specs.Tree.{related}
 use Rattle.codes.specs.Scrambling.{code-group}
-use Rattle.sync_codes.specs.Burst.{burst-start}
+use Rattle.codes.specs.Burst.{burst-start}
 use Rattle.modulation.specs.Symbols.{pair, symbol}
 use Rattle.slot.specs.declared.parts.Parts.{Parts}
 use Rattle.slot.specs.Setup.{Channel, Setup, is-some, is-open}

@@ -9,14 +9,14 @@ use Rattle.complex.specs.Arithmetic.{_+j_}
 use Rattle.complex.specs.Buffers.{listed}
 use Rattle.codes.specs.Tree.{code, related}
 use Rattle.codes.specs.Scrambling.{scrambling}
-use Rattle.sync_codes.specs.declared.Allocated.{Allocated}
-use Rattle.sync_codes.specs.SyncCodes.{Cp, C}
-use Rattle.sync_codes.specs.Allocation.{allocation, with-unit}
-use Rattle.sync_codes.specs.Burst.{burst-start}
+use Rattle.codes.specs.declared.Allocated.{Allocated}
+use Rattle.codes.specs.SyncCodes.{Cp, C}
+use Rattle.codes.specs.Allocation.{allocation, with-unit}
+use Rattle.codes.specs.Burst.{burst-start}
 use Rattle.slot.specs.Setup.{Setup}
 use Rattle.slot.specs.Slot.{chip}
-use Rattle.analyser.specs.Reading.{reading}
-use Rattle.analyser.specs.Hardening.{hard-bit}
+use Rattle.read.specs.Reading.{reading}
+use Rattle.harden.specs.Hardening.{hard-bit}
 use Rattle.demands.specs.Reference.{cell-set, with-channel}
 use lib.ListN.{getD}
 

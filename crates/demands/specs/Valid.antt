@@ -8,7 +8,7 @@ use Prim.Native.Nat.{ℕ, _≤_, _<_}
 use lib.Dec.{T}
 use lib.ListN.{length, getD}
 use Rattle.codes.specs.Tree.{among, is-code, related}
-use Rattle.sync_codes.specs.Allocation.{one-or-two, is-frame-and-half}
+use Rattle.codes.specs.Allocation.{one-or-two, is-frame-and-half}
 use Rattle.slot.specs.Setup.{Channel, SyncSetup, Setup, is-some, is-open}
 use Rattle.slot.specs.Slot.{slot-length, bit-count}
 use Rattle.demands.specs.Reference.{Reference}

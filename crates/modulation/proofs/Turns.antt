@@ -16,13 +16,14 @@ use Rattle.complex.proofs.Integers.{ring, *ℤ-pos-one}
 use Rattle.complex.proofs.Lists.{listed-at}
 use Rattle.complex.proofs.Ring.{by-components}
 use Rattle.complex.proofs.Rotations.{rotate-0, rotate-1, rotate-2, rotate-3}
+use Rattle.codes.specs.Held.{signed-by-j}
 use Rattle.codes.specs.Scrambling.{v, scrambling}
 use Rattle.complex.specs.Fits.{Within, Bound}
 use Rattle.complex.proofs.Bounds.{bound-listed}
 use Rattle.complex.proofs.Sizes.{within-more, within-mul, within-neg}
 use Rattle.codes.proofs.Rows.{v-within}
 use Rattle.modulation.specs.declared.Block.{Block}
-use Rattle.modulation.specs.Held.{block-of, turn, turn-at, turned}
+use Rattle.modulation.specs.Held.{block-of, turn-at, turned}
 use Rattle.modulation.proofs.Blocks.{block-bound}
 
 -- a product of four terms, two of which are 0 on the left and one on the right
@@ -96,14 +97,15 @@ module _ (x : ℤ) where
   by-0 : (x -ℤ pos 0) +j (x +ℤ pos 0) ≡ x +j x
   by-0 = by-components (simp ring) (simp ring)
 
-pub turn-is : (p i : ℕ) → turn-at p i ≡ turn (v p (i + 1)) i +j turn (v p (i + 1)) (i + 3)
-unfolding scrambling real
+-- the real one has the sign of place i, the imaginary one that of place i + 3
+pub turn-is : (p i : ℕ) → turn-at p i ≡ signed-by-j (v p (i + 1)) i +j signed-by-j (v p (i + 1)) (i + 3)
+unfolding scrambling real signed-by-j
 turn-is p i = go (ℕ-discrete ((i + 1) % 4) 0) (ℕ-discrete ((i + 1) % 4) 1) (ℕ-discrete ((i + 1) % 4) 2)
   where
     turned-by : {z : Complex} → scrambling p (i + 1) ≡ z → turn-at p i ≡ z ⊗ (pos 1 +j pos 1)
     turned-by e = ap (λ (z : Complex). z ⊗ (pos 1 +j pos 1)) e
 
-    go : Dec ((i + 1) % 4 ≡ 0) → Dec ((i + 1) % 4 ≡ 1) → Dec ((i + 1) % 4 ≡ 2) → turn-at p i ≡ turn (v p (i + 1)) i +j turn (v p (i + 1)) (i + 3)
+    go : Dec ((i + 1) % 4 ≡ 0) → Dec ((i + 1) % 4 ≡ 1) → Dec ((i + 1) % 4 ≡ 2) → turn-at p i ≡ signed-by-j (v p (i + 1)) i +j signed-by-j (v p (i + 1)) (i + 3)
     go (yes e) d f = rw (le-ltb (i % 4) 2 (omega arith), le-ltb ((i + 3) % 4) 2 (omega arith)) (turned-by (rotate-0 (i + 1) (real (v p (i + 1))) e) ∙ times-one-plus-j (v p (i + 1)) (pos 0) ∙ by-0 (v p (i + 1)))
     go (no d) (yes e) f = rw (lt-ltb (i % 4) 2 (omega arith), le-ltb ((i + 3) % 4) 2 (omega arith)) (turned-by (rotate-1 (i + 1) (real (v p (i + 1))) e) ∙ times-one-plus-j (pos 0) (v p (i + 1)) ∙ by-1 (v p (i + 1)))
     go (no d) (no f) (yes e) = rw (lt-ltb (i % 4) 2 (omega arith), lt-ltb ((i + 3) % 4) 2 (omega arith)) (turned-by (rotate-2 (i + 1) (real (v p (i + 1))) e) ∙ times-one-plus-j (negℤ (v p (i + 1))) (pos 0) ∙ by-2 (v p (i + 1)))
@@ -111,6 +113,7 @@ turn-is p i = go (ℕ-discrete ((i + 1) % 4) 0) (ℕ-discrete ((i + 1) % 4) 1) (
 
 -- so a turn is a sign, or 0
 pub turn-bound : (p : ℕ) {r : Block} → r ≡ block-of (turn-at p) → Bound 1 (r .re) × Bound 1 (r .im)
+unfolding signed-by-j
 turn-bound p e = block-bound (turn-at p) e (λ i. rw (turn-is p i) (record { re = either (ltb (i % 4) 2) i; im = either (ltb ((i + 3) % 4) 2) i }))
   where
     either : (b : Bool) (i : ℕ) → Within 1 (cond b (negℤ (v p (i + 1))) (v p (i + 1)))

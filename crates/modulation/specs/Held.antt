@@ -9,14 +9,13 @@ use Rattle.complex.specs.declared.Complex.{Complex}
 use Rattle.complex.specs.Arithmetic.{_+j_, real, _⊕_, _⊗_, Σℤ<}
 use Rattle.complex.specs.Buffers.{listed}
 use Rattle.codes.specs.Signs.{_at_}
-use Rattle.codes.specs.Held.{sign-bit}
+use Rattle.codes.specs.Held.{sign-bit, secondary-row}
 use Rattle.codes.specs.Range.{any}
 use Rattle.codes.specs.Scrambling.{scrambling}
 use Rattle.codes.specs.Tree.{element, width}
-use Rattle.sync_codes.specs.declared.ModulatedCode.{ModulatedCode}
-use Rattle.sync_codes.specs.declared.Allocated.{Allocated}
-use Rattle.sync_codes.specs.SyncCodes.{a, b}
-use Rattle.sync_codes.specs.Held.{secondary-row}
+use Rattle.codes.specs.declared.ModulatedCode.{ModulatedCode}
+use Rattle.codes.specs.declared.Allocated.{Allocated}
+use Rattle.codes.specs.SyncCodes.{a, b}
 use Rattle.modulation.specs.declared.Block.{Block}
 use Rattle.modulation.specs.declared.data.OpenLevels.{OpenLevels}
 use Rattle.modulation.specs.Nodes.{node}
@@ -72,10 +71,6 @@ component z re = cond re (z .re) (z .im)
 -- the turn of chip i: scrambling element i + 1 times 1 + j
 abbrev pub turn-at : ℕ → ℕ → Complex
 turn-at p i = scrambling p (i + 1) ⊗ (pos 1 +j pos 1)
-
--- its component from the sign x of chip i: the real one at place i, the imaginary one at place i + 3
-abbrev pub turn : ℤ → ℕ → ℤ
-turn x i = cond (ltb (i % 4) 2) (negℤ x) x
 
 -- entry i of the turns t times that of `even` or of `odd`, by the place's parity
 abbrev pub turned : List ℤ → List ℤ → List ℤ → ℕ → ℤ

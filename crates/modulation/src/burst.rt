@@ -4,16 +4,16 @@ ghost use Prim.Native.Nat.{_+_, _*_, _<_};
 ghost use lib.IntN.{pos};
 ghost use Rattle.complex.specs.Arithmetic.{_+j_, real, 𝟎, _⊗_};
 ghost use Rattle.complex.specs.Fits.{Both, Within};
-ghost use Rattle.sync_codes.specs.Burst.{burst};
+ghost use Rattle.codes.specs.Burst.{burst};
 ghost use Rattle.modulation.specs.Held.{block-of, modulated-part as modulated-part-of, modulated-parts as modulated-parts-of, part-chip as part-chip-of};
 use crate::Block;
+use codes::Allocated;
 use codes::CodeGroup;
+use codes::ModulatedCode;
+use codes::burst;
 use codes::signs::sign_at;
+use codes::sync;
 use complex::Complex;
-use sync_codes::Allocated;
-use sync_codes::ModulatedCode;
-use sync_codes::burst;
-use sync_codes::sync;
 
 // The unit of a modulated code with the sign of the code's part m.
 fn modulated_part(c: ModulatedCode, m: u32) -> Complex

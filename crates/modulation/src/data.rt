@@ -10,7 +10,7 @@ ghost use Rattle.complex.specs.Fits.{Bound, Within};
 ghost use Rattle.codes.specs.Tree.{is-spreading-factor, width};
 ghost use Rattle.modulation.specs.Symbols.{symbol as symbol-of};
 ghost use Rattle.modulation.specs.Nodes.{node as node-of};
-ghost use Rattle.modulation.specs.Held.{block-of, climbed as climbed-of, component as component-of, has-open, joined as joined-of, levels-of, raised as raised-of, spread as spread-of, turn as turn-of, turn-at, turned as turned-of};
+ghost use Rattle.modulation.specs.Held.{block-of, climbed as climbed-of, component as component-of, has-open, joined as joined-of, levels-of, raised as raised-of, spread as spread-of, turn-at, turned as turned-of};
 use crate::Block;
 use codes::CellParameter;
 use codes::scrambling;
@@ -191,14 +191,6 @@ pub fn spread(gains: &[u16; 31], levels: OpenLevels, s: &[i32; 16]) -> [i32; 16]
     climbed(gains, levels.q1, s, &x2, 1)
 }
 
-// x, with its sign changed at the first two of each four places.
-fn turn(x: i32, i: usize) -> i32
-    requires { ⌜ Within 1 x ⌝ }
-    ensures { λ r. ⌜ r ≡ turn-of x i ⌝ }
-{
-    if i % 4 < 2 { -x } else { x }
-}
-
 // A cell's turns: the elements of its scrambling code, each times 1 + j; their components are the code's signs, some changed, by a pattern of four
 // places. The elements themselves are imaginary at even places, from 0, and real at odd ones, so each component of a product with one is a single product.
 pub fn turns(cell: CellParameter) -> Block
@@ -207,9 +199,10 @@ pub fn turns(cell: CellParameter) -> Block
     let mut re = [0i32; 16];
     let mut im = [0i32; 16];
     for i in 0..16 {
-        let v = scrambling::sign(cell, i as u32);
-        let a = turn(v, i);
-        let b = turn(v, i + 3);
+        let place = i as u32;
+        let v = scrambling::sign(cell, place);
+        let a = scrambling::signed_by_j(v, place);
+        let b = scrambling::signed_by_j(v, place + 3);
         re[i] = a;
         im[i] = b;
     }

@@ -16,7 +16,7 @@ use Rattle.codes.specs.Tree.{is-code, element}
 use Rattle.modulation.specs.Symbols.{pair, symbol}
 use Rattle.slot.specs.Setup.{Channel, Setup, is-some}
 use Rattle.slot.specs.Slot.{over-codes, data-chip}
-use Rattle.analyser.specs.Reading.{reading}
+use Rattle.read.specs.Reading.{reading}
 use Rattle.orthogonality.specs.Gains.{Σℕ<, squared-gain, squared-gains}
 use Rattle.orthogonality.proofs.Blocks.{Blocks, blocks}
 use Rattle.orthogonality.proofs.Codes.{code-parts, over-cong, ⊗-over, conj-over, Σ-over}

@@ -19,7 +19,7 @@ use Rattle.codes.proofs.Tests.{T-true}
 use Rattle.modulation.specs.Symbols.{pair, symbol}
 use Rattle.slot.specs.Setup.{Channel, Setup, is-some}
 use Rattle.slot.specs.Slot.{over-codes, channel-chip, data-chip}
-use Rattle.analyser.specs.Reading.{reading}
+use Rattle.read.specs.Reading.{reading}
 use Rattle.orthogonality.proofs.Codes.{at-every-code, over-cong, over-one, ⊗-over, Σ-over}
 use Rattle.orthogonality.proofs.Spreading.{spread, own-spread, other-spread}
 use Rattle.orthogonality.proofs.Units.{conj-zero, no-scrambling}

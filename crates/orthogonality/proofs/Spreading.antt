@@ -16,7 +16,7 @@ use Rattle.codes.specs.Scrambling.{scrambling}
 use Rattle.codes.specs.Tree.{is-code, element, related}
 use Rattle.codes.proofs.Tests.{same, same→eq}
 use Rattle.codes.proofs.Leaves.{each-code}
-use Rattle.analyser.specs.Reading.{reading}
+use Rattle.read.specs.Reading.{reading}
 use Rattle.orthogonality.proofs.Blocks.{Blocks, blocks}
 use Rattle.orthogonality.proofs.Codes.{code-parts, at-every-code}
 use Rattle.orthogonality.proofs.Units.{IsUnit, scrambling-unit}

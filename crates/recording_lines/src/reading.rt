@@ -10,10 +10,10 @@ use crate::recording::outside;
 use crate::recording::part;
 use crate::recording::stretch;
 use crate::recording::values;
-use analyser::HardenAnswer;
-use analyser::ReadAnswer;
 use bench_lines::refused;
 use codes::CellParameter;
+use harden::HardenAnswer;
+use read::ReadAnswer;
 use script::faults::Fault;
 use text::answers;
 use text::answers::Answers;
@@ -32,7 +32,7 @@ pub fn read(
     let fault = outside(s.chips, x[3], x[4]);
     match fault {
         Fault::None => {
-            let a = analyser::read(
+            let a = read::read(
                 CellParameter(x[0]),
                 x[1],
                 x[2],
@@ -84,7 +84,7 @@ struct HardBits {
 
 fn hard_bits(yre: &[i32], yim: &[i32], count: usize) -> HardBits {
     let mut bytes = [0u8; 2208];
-    let a = analyser::harden(part(yre, 0, count), part(yim, 0, count), &mut bytes);
+    let a = harden::harden(part(yre, 0, count), part(yim, 0, count), &mut bytes);
     let refusal = match a {
         HardenAnswer::Hardened => 0,
         HardenAnswer::Refused(number) => number,

@@ -7,11 +7,11 @@ use crate::no_call;
 use crate::recording::outside;
 use crate::recording::stretch;
 use bench_lines::refused;
+use find::FindAnswer;
+use find::Peak;
+use read_sync::Candidate;
+use read_sync::SyncAnswer;
 use script::faults::Fault;
-use sync_analyser::Candidate;
-use sync_analyser::FindAnswer;
-use sync_analyser::Peak;
-use sync_analyser::SyncAnswer;
 use text::answers;
 use text::answers::Answers;
 use text::complement::not_negative_wide;
@@ -39,11 +39,7 @@ pub fn read_sync(
     let fault = outside(s.chips, from, count);
     match fault {
         Fault::None => {
-            let a = sync_analyser::read_sync(
-                case,
-                stretch(re, from, count),
-                stretch(im, from, count),
-            );
+            let a = read_sync::read_sync(case, stretch(re, from, count), stretch(im, from, count));
             let m = match a {
                 SyncAnswer::Burst(c) => burst(out, n, c),
                 SyncAnswer::Refused(number) => refused(out, n, number),
@@ -63,7 +59,7 @@ fn peak(out: &mut Answers, n: usize, p: Peak) -> usize {
 fn strongest(re: &[i32], im: &[i32]) -> FindAnswer {
     let mut sumre = [0i32; 5105];
     let mut sumim = [0i32; 5105];
-    sync_analyser::find(re, im, &mut sumre, &mut sumim)
+    find::find(re, im, &mut sumre, &mut sumim)
 }
 
 pub fn find(

@@ -1,8 +1,8 @@
 // What a program needs to try the analyser: chips with noise and sync bursts, digests of them, and lines with numbers in them.
 // A signed number is computed with as its two's complement, modulo 2^32.
+use codes::Allocated;
 use codes::CodeGroup;
-use sync_codes::Allocated;
-use sync_codes::ModulatedCode;
+use codes::ModulatedCode;
 use text::complement::signed;
 use text::complement::word;
 
@@ -117,7 +117,7 @@ pub fn add_noise(s: &mut Chips, n: u32, limit: u32, seed: u32) {
 // A gain times a modulated code's chip n.
 fn modulated(code: ModulatedCode, gain: u32, n: u32) -> Words {
     let unit = code.unit;
-    let chip = sync_codes::sync::secondary(code.code, n);
+    let chip = codes::sync::secondary(code.code, n);
     let re = times(chip.re, gain);
     let im = times(chip.im, gain);
     Words {
@@ -135,7 +135,7 @@ fn plus(x: Words, y: Words) -> Words {
 
 // Chip n of a burst.
 fn chip(three: Allocated, primary_gain: u32, gain: u32, n: u32) -> Words {
-    let z = sync_codes::sync::primary(n);
+    let z = codes::sync::primary(n);
     let primary = Words {
         re: times(z.re, primary_gain),
         im: times(z.im, primary_gain),
@@ -167,7 +167,7 @@ fn add_chip(s: &mut Chips, at: u32, z: Words) {
 pub fn recording(n: u32, limit: u32, seed: u32, group: u32, start: u32, second: u32) -> Chips {
     let mut chips = zeros();
     add_noise(&mut chips, n, limit, seed);
-    let three = sync_codes::burst::allocated(1, CodeGroup(group), 1, 0);
+    let three = codes::burst::allocated(1, CodeGroup(group), 1, 0);
     add_burst(&mut chips, start, three, 40 * 5, 40 * 3);
     add_burst(&mut chips, second, three, 40 * 5, 40 * 3);
     chips

@@ -15,7 +15,7 @@ use Rattle.complex.specs.Fits.{Both}
 use Rattle.complex.proofs.Components.{both-more}
 use Rattle.codes.specs.Scrambling.{code-group}
 use Rattle.codes.proofs.Tests.{neither}
-use Rattle.sync_codes.specs.Burst.{burst, burst-start}
+use Rattle.codes.specs.Burst.{burst, burst-start}
 use Rattle.slot.specs.declared.Sync.{Sync}
 use Rattle.slot.specs.Setup.{SyncSetup}
 use Rattle.slot.specs.Slot.{sync-chip}

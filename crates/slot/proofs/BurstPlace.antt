@@ -15,7 +15,7 @@ use Rattle.complex.proofs.Ring.{⊕-𝟎}
 use Rattle.codes.specs.Range.{each}
 use Rattle.codes.specs.Scrambling.{code-group}
 use Rattle.codes.proofs.Tests.{each-at}
-use Rattle.sync_codes.specs.Burst.{burst, burst-start}
+use Rattle.codes.specs.Burst.{burst, burst-start}
 use Rattle.slot.specs.declared.parts.Parts.{Parts}
 use Rattle.slot.specs.Setup.{SyncSetup, Setup}
 use Rattle.slot.specs.Slot.{burst-type, data-chip, sync-chip, chip}

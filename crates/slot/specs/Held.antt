@@ -10,7 +10,7 @@ use Rattle.complex.specs.declared.Complex.{Complex}
 use Rattle.complex.specs.Arithmetic.{_+j_, _⊕_}
 use Rattle.complex.specs.Buffers.{listed}
 use Rattle.codes.specs.Scrambling.{code-group}
-use Rattle.sync_codes.specs.Burst.{burst-start}
+use Rattle.codes.specs.Burst.{burst-start}
 use Rattle.modulation.specs.Symbols.{symbol}
 use Rattle.modulation.specs.Held.{component, spread, turned}
 use Rattle.slot.specs.declared.Sync.{Sync}

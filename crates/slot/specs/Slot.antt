@@ -10,7 +10,7 @@ use Rattle.complex.specs.declared.Complex.{Complex}
 use Rattle.complex.specs.Arithmetic.{real, 𝟎, _⊕_, _⊗_, Σ<}
 use Rattle.codes.specs.Tree.{element}
 use Rattle.codes.specs.Scrambling.{scrambling, code-group}
-use Rattle.sync_codes.specs.Burst.{burst, burst-start}
+use Rattle.codes.specs.Burst.{burst, burst-start}
 use Rattle.modulation.specs.Symbols.{pair, symbol}
 use Rattle.slot.specs.declared.parts.Parts.{Parts}
 use Rattle.slot.specs.Setup.{Channel, SyncSetup, Setup}

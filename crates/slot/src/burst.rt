@@ -8,10 +8,10 @@ ghost use Rattle.slot.specs.Tables.{view-sync};
 ghost use Rattle.slot.specs.Held.{falls-on};
 use crate::Sync;
 use codes::CellParameter;
+use codes::burst;
 use codes::scrambling;
 use modulation::Block;
 use modulation::burst as parts;
-use sync_codes::burst;
 
 // Whether a cell's burst falls on chip x of the slot.
 pub fn falls(cell: CellParameter, y: Sync, x: usize) -> bool

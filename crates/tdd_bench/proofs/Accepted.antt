@@ -6,10 +6,10 @@ use lib.IntN.{ℤ}
 use Rattle.codes.specs.declared.CellParameter.{CellParameter}
 use Rattle.codes.specs.Refusals.{Answer, refused, gives}
 use Rattle.codes.proofs.Refused.{numbered, 0-accepts, ZeroAccepts}
-use Rattle.analyser.specs.Reading.{read-call, read-refusals}
-use Rattle.analyser.specs.Hardening.{harden-call, harden-refusals}
-use Rattle.sync_analyser.specs.SyncReading.{read-sync-call, sync-refusals}
-use Rattle.sync_analyser.specs.Finding.{find-call, find-refusals}
+use Rattle.read.specs.Reading.{read-call, read-refusals}
+use Rattle.harden.specs.Hardening.{harden-call, harden-refusals}
+use Rattle.read_sync.specs.SyncReading.{read-sync-call, sync-refusals}
+use Rattle.find.specs.Finding.{find-call, find-refusals}
 use Rattle.slot.specs.Tables.{view}
 use Rattle.bench.specs.declared.Bench.{Bench}
 use Rattle.bench.specs.declared.Channel.{Channel}

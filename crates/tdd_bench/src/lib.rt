@@ -6,14 +6,12 @@ ghost use lib.IntN.{pos};
 ghost use lib.ListN.{length, take};
 ghost use Rattle.complex.specs.Buffers.{written};
 ghost use Rattle.codes.specs.Refusals.{after, refusal-of};
-ghost use Rattle.analyser.specs.Reading.{read-call};
-ghost use Rattle.analyser.specs.Hardening.{harden-call};
-ghost use Rattle.sync_analyser.specs.SyncReading.{read-sync-call};
-ghost use Rattle.sync_analyser.specs.Finding.{find-call, ScratchLeft};
+ghost use Rattle.read.specs.Reading.{read-call};
+ghost use Rattle.harden.specs.Hardening.{harden-call};
+ghost use Rattle.read_sync.specs.SyncReading.{read-sync-call};
+ghost use Rattle.find.specs.Finding.{find-call, ScratchLeft};
 ghost use Rattle.bench.specs.BenchCalls.{close-call, clear-sync-call, draw-call, fresh, left-by, load-bits-call, load-plan-call, open-call, plan-left-by, set-cell-call, set-gain-call, set-sync-call, start-call, told-call, told-draw};
 ghost use Rattle.tdd_bench.specs.PlanResults.{place-of, plan-refusal-of};
-use analyser::HardenAnswer;
-use analyser::ReadAnswer;
 use bench::Answered;
 use bench::Bench;
 use bench::CallAnswer;
@@ -21,8 +19,10 @@ use bench::DrawAnswer;
 use bench::PlanAnswer;
 use bench::PlanRecords;
 use codes::CellParameter;
-use sync_analyser::FindAnswer;
-use sync_analyser::SyncAnswer;
+use find::FindAnswer;
+use harden::HardenAnswer;
+use read::ReadAnswer;
+use read_sync::SyncAnswer;
 
 #[repr(C)]
 pub struct CallResult {
@@ -232,7 +232,7 @@ pub extern "C" fn tdd_read(
     ensures real { λ r. ⌜ now (outre .exit) ≡ after (read-call cell q k (now (re .entry)) (now (im .entry)) (length (now (outre .entry))) (length (now (outim .entry)))) (now (outre .entry)) (λ y. written (y .re) (now (outre .entry))) ⌝ }
     ensures imaginary { λ r. ⌜ now (outim .exit) ≡ after (read-call cell q k (now (re .entry)) (now (im .entry)) (length (now (outre .entry))) (length (now (outim .entry)))) (now (outim .entry)) (λ y. written (y .im) (now (outim .entry))) ⌝ }
 {
-    let answer = analyser::read(CellParameter(cell), q, k, re, im, outre, outim);
+    let answer = read::read(CellParameter(cell), q, k, re, im, outre, outim);
     match answer {
         ReadAnswer::Read => 0,
         ReadAnswer::Refused(n) => n,
@@ -245,7 +245,7 @@ pub extern "C" fn tdd_harden(re: &[i32], im: &[i32], bits: &mut [u8]) -> u32
     ensures refusal { λ r. ⌜ r ≡ refusal-of (harden-call (now (re .entry)) (now (im .entry)) (length (now (bits .entry)))) ⌝ }
     ensures bytes { λ r. ⌜ now (bits .exit) ≡ after (harden-call (now (re .entry)) (now (im .entry)) (length (now (bits .entry)))) (now (bits .entry)) (λ b. written b (now (bits .entry))) ⌝ }
 {
-    let answer = analyser::harden(re, im, bits);
+    let answer = harden::harden(re, im, bits);
     match answer {
         HardenAnswer::Hardened => 0,
         HardenAnswer::Refused(number) => number,
@@ -259,7 +259,7 @@ pub extern "C" fn tdd_read_sync(case: u32, re: &[i32], im: &[i32]) -> SyncResult
     ensures frame { λ r. ⌜ r .frame ≡ after (read-sync-call case (now (re .entry)) (now (im .entry))) 0 (λ c. c .frame) ⌝ }
     ensures half { λ r. ⌜ r .half ≡ after (read-sync-call case (now (re .entry)) (now (im .entry))) 0 (λ c. c .half) ⌝ }
 {
-    let answer = sync_analyser::read_sync(case, re, im);
+    let answer = read_sync::read_sync(case, re, im);
     match answer {
         SyncAnswer::Burst(c) => SyncResult {
             refusal: 0,
@@ -289,7 +289,7 @@ pub extern "C" fn tdd_find(
     ensures real { λ r. ⌜ ScratchLeft (find-call (now (re .entry)) (now (im .entry)) (length (now (sumre .entry))) (length (now (sumim .entry)))) (now (sumre .entry)) (now (sumre .exit)) ⌝ }
     ensures imaginary { λ r. ⌜ ScratchLeft (find-call (now (re .entry)) (now (im .entry)) (length (now (sumre .entry))) (length (now (sumim .entry)))) (now (sumim .entry)) (now (sumim .exit)) ⌝ }
 {
-    let answer = sync_analyser::find(re, im, sumre, sumim);
+    let answer = find::find(re, im, sumre, sumim);
     match answer {
         FindAnswer::Found(p) => FindResult {
             refusal: 0,

@@ -4,21 +4,20 @@ ghost use mathlib.Core.Path.{_≡_};
 ghost use mathlib.Core.Bool.{cond};
 ghost use lib.IntN.{pos};
 ghost use Rattle.complex.specs.Arithmetic.{𝟎};
-ghost use Rattle.codes.specs.Calls.{code-group-call, element-call, related-call, scrambling-call, told-chip};
+ghost use Rattle.codes.specs.Calls.{code-group-call, element-call, related-call, scrambling-call, told-chip, allocation-call, burst-start-call, primary-call, secondary-call};
 ghost use Rattle.codes.specs.Refusals.{after, refusal-of};
-ghost use Rattle.sync_codes.specs.Allocation.{silent};
-ghost use Rattle.sync_codes.specs.Calls.{allocation-call, burst-start-call, primary-call, secondary-call};
+ghost use Rattle.codes.specs.Allocation.{silent};
+use codes::Allocated;
+use codes::AllocationAnswer;
 use codes::CellParameter;
 use codes::ChipAnswer;
 use codes::CodeGroup;
 use codes::ElementAnswer;
 use codes::GroupAnswer;
 use codes::RelatedAnswer;
+use codes::StartAnswer;
+use codes::burst;
 use complex::Complex;
-use sync_codes::Allocated;
-use sync_codes::AllocationAnswer;
-use sync_codes::StartAnswer;
-use sync_codes::burst;
 
 #[repr(C)]
 pub struct ElementResult {
@@ -139,7 +138,7 @@ pub extern "C" fn tdd_primary_chip(chip: u32) -> ChipResult
     ensures refusal { λ r. ⌜ r .refusal ≡ refusal-of (primary-call chip) ⌝ }
     ensures chip { λ r. ⌜ r .chip ≡ after (primary-call chip) 𝟎 (λ x. x) ⌝ }
 {
-    chip_result(sync_codes::primary_chip(chip))
+    chip_result(codes::primary_chip(chip))
 }
 
 // Chip `chip`, from 0, of secondary sync code `number`. Refuses 16 for a number not listed or a chip past the end.
@@ -148,7 +147,7 @@ pub extern "C" fn tdd_secondary_chip(number: u32, chip: u32) -> ChipResult
     ensures refusal { λ r. ⌜ r .refusal ≡ refusal-of (secondary-call number chip) ⌝ }
     ensures chip { λ r. ⌜ r .chip ≡ after (secondary-call number chip) 𝟎 (λ x. x) ⌝ }
 {
-    chip_result(sync_codes::secondary_chip(number, chip))
+    chip_result(codes::secondary_chip(number, chip))
 }
 
 #[repr(C)]
@@ -165,7 +164,7 @@ pub extern "C" fn tdd_allocation(case: u32, group: u32, frame: u32, half: u32) -
     ensures codes { λ r. ⌜ r .codes ≡ after (allocation-call case group frame half) silent (λ s. s) ⌝ }
 {
     let none = burst::silent();
-    let answer = sync_codes::allocation(case, CodeGroup(group), frame, half);
+    let answer = codes::allocation(case, CodeGroup(group), frame, half);
     match answer {
         AllocationAnswer::Codes(s) => AllocationResult {
             refusal: 0,
@@ -190,7 +189,7 @@ pub extern "C" fn tdd_burst_start(group: u32) -> StartResult
     ensures refusal { λ r. ⌜ r .refusal ≡ refusal-of (burst-start-call group) ⌝ }
     ensures start { λ r. ⌜ r .start ≡ after (burst-start-call group) 0 (λ n. n) ⌝ }
 {
-    let answer = sync_codes::burst_start(CodeGroup(group));
+    let answer = codes::burst_start(CodeGroup(group));
     match answer {
         StartAnswer::Start(n) => StartResult {
             refusal: 0,

@@ -1,7 +1,7 @@
 // Parts of calls that the benchmark times by themselves. No host's library: nothing here is a call.
 ghost use mathlib.Core.Path.{_≡_};
-ghost use Rattle.bench.specs.BenchCalls.{has-byte-above-1};
-use bench::bits;
+ghost use Rattle.tables.specs.Bits.{has-byte-above-1};
+use tables::bits;
 
 // The byte test of load bits: whether a byte is above 1.
 #[no_mangle]

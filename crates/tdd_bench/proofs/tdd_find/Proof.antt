@@ -6,8 +6,8 @@ use mir.Val.{toZ, ofZ}
 use Prim.Native.Nat.{ℕ}
 use borrow.Author.Needs.{needs}
 use Rattle.codes.proofs.Refused.{held}
-use Rattle.sync_analyser.specs.declared.Peak.{Peak}
-use Rattle.sync_analyser.specs.Finding.{told-find}
+use Rattle.find.specs.declared.Peak.{Peak}
+use Rattle.find.specs.Finding.{told-find}
 use Rattle.tdd_bench.proofs.tdd_find.Statement.{statement}
 use Rattle.tdd_bench.proofs.tdd_find.Tie as tie
 

@@ -3,7 +3,7 @@ use mathlib.Core.Path.{sym, ap, _∙_}
 use denote.Ref.{now}
 use lib.ListN.{length}
 use borrow.Author.Needs.{needs}
-use Rattle.analyser.specs.Hardening.{harden-call, told-harden}
+use Rattle.harden.specs.Hardening.{harden-call, told-harden}
 use Rattle.tdd_bench.proofs.Results.{told-refusal}
 use Rattle.tdd_bench.proofs.tdd_harden.Statement.{statement}
 use Rattle.tdd_bench.proofs.tdd_harden.Tie as tie

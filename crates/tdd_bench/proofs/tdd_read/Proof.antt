@@ -3,7 +3,7 @@ use mathlib.Core.Path.{sym, ap, _∙_}
 use denote.Ref.{now}
 use lib.ListN.{length}
 use borrow.Author.Needs.{needs}
-use Rattle.analyser.specs.Reading.{read-call, told-read}
+use Rattle.read.specs.Reading.{read-call, told-read}
 use Rattle.tdd_bench.proofs.Results.{told-refusal}
 use Rattle.tdd_bench.proofs.tdd_read.Statement.{statement}
 use Rattle.tdd_bench.proofs.tdd_read.Tie as tie

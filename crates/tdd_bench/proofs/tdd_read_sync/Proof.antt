@@ -3,8 +3,8 @@ use mathlib.Core.Path.{sym, ap, _∙_}
 use Prim.Native.Nat.{ℕ}
 use borrow.Author.Needs.{needs}
 use Rattle.codes.proofs.Refused.{held}
-use Rattle.sync_analyser.specs.declared.Candidate.{Candidate}
-use Rattle.sync_analyser.specs.SyncReading.{told-sync}
+use Rattle.read_sync.specs.declared.Candidate.{Candidate}
+use Rattle.read_sync.specs.SyncReading.{told-sync}
 use Rattle.tdd_bench.proofs.tdd_read_sync.Statement.{statement}
 use Rattle.tdd_bench.proofs.tdd_read_sync.Tie as tie
 

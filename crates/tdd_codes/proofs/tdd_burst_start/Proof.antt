@@ -1,7 +1,7 @@
 -- `tdd_burst_start` meets its contract: each way is the call's own answer. Assumes nothing.
 use mathlib.Core.Path.{sym, ap, _∙_}
 use borrow.Author.Needs.{needs}
-use Rattle.sync_codes.specs.Calls.{told-start}
+use Rattle.codes.specs.Calls.{told-start}
 use Rattle.codes.proofs.Refused.{held}
 use Rattle.tdd_codes.proofs.tdd_burst_start.Statement.{statement}
 use Rattle.tdd_codes.proofs.tdd_burst_start.Tie as tie

@@ -5,9 +5,8 @@ use borrow.Author.Needs.{needs}
 use lib.IntN.{ℤ, _*ℤ_}
 use Rattle.complex.specs.Fits.{Within}
 use Rattle.complex.proofs.Ring.{by-components, real-⊗}
-use Rattle.codes.specs.Held.{sign-bit}
+use Rattle.codes.specs.Held.{sign-bit, secondary-row}
 use Rattle.codes.proofs.Rows.{sign-within}
-use Rattle.sync_codes.specs.Held.{secondary-row}
 use Rattle.modulation.specs.Held.{modulated-part}
 use Rattle.complex.proofs.Stored.{Is, held, given, stored, fits, times}
 use Rattle.modulation.proofs.burst.modulated_part.Statement.{statement}

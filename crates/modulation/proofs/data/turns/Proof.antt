@@ -10,9 +10,10 @@ use mir.Facts.{toZ-ofZ}
 use Rattle.complex.specs.declared.Complex.{Complex}
 use Rattle.complex.specs.Fits.{Within}
 use Rattle.complex.proofs.Sizes.{fits-within}
+use Rattle.codes.specs.Held.{signed-by-j}
 use Rattle.codes.specs.Scrambling.{v}
 use Rattle.codes.proofs.Rows.{v-within}
-use Rattle.modulation.specs.Held.{turn, turn-at}
+use Rattle.modulation.specs.Held.{turn-at}
 use Rattle.modulation.proofs.Blocks.{Filled, filled-none, filled-all, row-more}
 use Rattle.modulation.proofs.Turns.{turn-is}
 use Rattle.modulation.proofs.data.turns.Statement.{statement}
@@ -35,19 +36,19 @@ module _ (c : tie.After-sign Inv-loop μ-loop) where
   sign-is : toZ w32 (ofZ w32 (c .sign .result)) ≡ sign-at
   sign-is = toZ-ofZ (fits-within small tt) ∙ c .sign .ensures
 
-turn-requires : tie.Need-turn-requires Inv-loop μ-loop
-turn-requires c κs = rw (sign-is c) (v-within _ _)
+signed-by-j-requires : tie.Need-signed-by-j-requires Inv-loop μ-loop
+signed-by-j-requires c κs = rw (sign-is c) (v-within _ _)
 
-turn-requires-2 : tie.Need-turn-requires-2 Inv-loop μ-loop
-turn-requires-2 c κs = rw (sign-is (c .before)) (v-within _ _)
+signed-by-j-requires-2 : tie.Need-signed-by-j-requires-2 Inv-loop μ-loop
+signed-by-j-requires-2 c κs = rw (sign-is (c .before)) (v-within _ _)
 
 loop-again : tie.Need-loop-again Inv-loop μ-loop
 loop-again c =
     let s = c .before .before in
     let l = s .before .before .loop in
     let e = turn-is (s .before .before .before .args .cell .0) (l .i) in
-    let re = c .before .turn .ensures ∙ ap (λ (x : ℤ). turn x (l .i)) (sign-is s) ∙ sym (ap (λ (z : Complex). z .re) e) in
-    let im = c .turn2 .ensures ∙ ap (λ (x : ℤ). turn x (l .i + 3)) (sign-is s) ∙ sym (ap (λ (z : Complex). z .im) e) in
+    let re = c .before .signed-by-j .ensures ∙ ap (λ (x : ℤ). signed-by-j x (l .i)) (sign-is s) ∙ sym (ap (λ (z : Complex). z .re) e) in
+    let im = c .signed-by-j2 .ensures ∙ ap (λ (x : ℤ). signed-by-j x (l .i + 3)) (sign-is s) ∙ sym (ap (λ (z : Complex). z .im) e) in
     record { res = row-more (l .inv .res) (omega arith) (search needs) re; ims = row-more (l .inv .ims) (omega arith) (search needs) im }
 
 pub turns-spec : {M : Type 1} → statement M
@@ -59,9 +60,9 @@ turns-spec =
     (λ c. filled-none)
     (λ c. omega arith)
     (λ c κs. search needs)
-    turn-requires
+    signed-by-j-requires
     (λ c. omega arith)
-    turn-requires-2
+    signed-by-j-requires-2
     (λ c. omega arith)
     (λ c. omega arith)
     (λ c. omega arith)

@@ -7,7 +7,7 @@ use borrow.Author.Needs.{needs}
 use borrow.Author.Tests.{not-true, not-false}
 use Rattle.complex.specs.declared.Complex.{Complex}
 use Rattle.complex.specs.Fits.{Bound}
-use Rattle.sync_codes.specs.Burst.{burst}
+use Rattle.codes.specs.Burst.{burst}
 use Rattle.modulation.specs.declared.Block.{Block}
 use Rattle.modulation.specs.Held.{block-of}
 use Rattle.modulation.proofs.Blocks.{block-bound, block-cong}

@@ -1,0 +1,4 @@
+pub mod Choice
+pub mod Components
+pub mod Correlation
+pub mod Held

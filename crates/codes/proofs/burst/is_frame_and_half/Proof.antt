@@ -1,0 +1,37 @@
+-- `is_frame_and_half` meets its contract, test by test. Assumes nothing.
+use mathlib.Core.Path.{_≡_, sym, _∙_}
+use mathlib.Core.Bool.{true}
+use borrow.Author.Needs.{needs}
+use borrow.Author.Tests.{not-true, not-false, le-leb, lt-leb, eq-eqb, ne-eqb}
+use Rattle.codes.specs.Allocation.{one-or-two, is-frame-and-half}
+use Rattle.codes.proofs.burst.is_frame_and_half.Statement.{statement}
+use Rattle.codes.proofs.burst.is_frame_and_half.Tie as tie
+
+one-or-two-requires : tie.Need-one-or-two-requires
+one-or-two-requires c κs = search needs
+
+returns : tie.Need-returns
+unfolding is-frame-and-half
+returns c = rw (sym (c .before .one-or-two .ensures) ∙ not-true (c .before .one-or-two .result) (c .if1 .taken))
+
+good-frame : (c : tie.Else1) → one-or-two (c .before .before .args .frame) ≡ true
+good-frame c = sym (c .before .one-or-two .ensures) ∙ not-false (c .before .one-or-two .result) (c .if1 .left)
+
+returns-2 : tie.Need-returns-2
+unfolding is-frame-and-half
+returns-2 c = rw (good-frame (c .before), le-leb 2 (c .before .before .before .args .half) (c .if2 .taken))
+
+returns-3 : tie.Need-returns-3
+unfolding is-frame-and-half
+returns-3 c =
+    let h = c .before .before .before .before .args .half in
+    rw (good-frame (c .before .before), lt-leb 2 h (c .before .if2 .left), eq-eqb h 1 (c .if3 .taken))
+
+returns-4 : tie.Need-returns-4
+unfolding is-frame-and-half
+returns-4 c =
+    let h = c .before .before .before .before .args .half in
+    rw (good-frame (c .before .before), lt-leb 2 h (c .before .if2 .left), ne-eqb h 1 (c .if3 .left))
+
+pub is-frame-and-half-spec : {M : Type 1} → statement M
+is-frame-and-half-spec = tie.close (tie.spec one-or-two-requires returns returns-2 returns-3 returns-4)

@@ -1,0 +1,2 @@
+-- The laws of hard bits.
+pub mod Pairs

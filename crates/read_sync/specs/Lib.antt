@@ -1,0 +1,2 @@
+pub mod SyncReading
+pub mod Held

@@ -1,3 +1,0 @@
-pub mod SyncReading
-pub mod Finding
-pub mod Held

@@ -1,0 +1,26 @@
+#!/bin/sh
+# Every check of the repository: the texts first, then rt ci, then the program, the libraries and the compiler's refusals, on what rt ci has proved and built.
+# The last line is rt ci's verdict, held back until all the rest has passed; where anything fails, the status is not 0 and that line does not come.
+set -eu
+cd "$(dirname "$0")/.."
+rt fmt --check
+tests/contract-names.sh
+tests/export-contracts.sh
+
+room=$(mktemp -d)
+trap 'rm -rf "$room"' EXIT
+# What rt ci says is shown as it comes, but for its last line; through a fifo, since a pipe would hide its status.
+mkfifo "$room/said"
+awk -v verdict="$room/verdict" 'NR > 1 { print line; fflush() } { line = $0 } END { print line >verdict }' <"$room/said" &
+status=0
+rt ci >"$room/said" 2>&1 || status=$?
+wait
+[ $status = 0 ] || {
+    echo "test: rt ci ended with status $status: $(cat "$room/verdict")" >&2
+    exit 1
+}
+
+tests/tdd.sh
+tests/host.sh
+tests/compiler-refusals.sh
+cat "$room/verdict"
