@@ -15,8 +15,8 @@ awk -v verdict="$room/verdict" 'NR > 1 { print line; fflush() } { line = $0 } EN
 status=0
 rt ci >"$room/said" 2>&1 || status=$?
 wait
-[ $status = 0 ] || {
-    echo "test: rt ci ended with status $status: $(cat "$room/verdict")" >&2
+[ $status = 0 ] && grep -qx '[0-9]* passed, 0 failed' "$room/verdict" || {
+    echo "test: rt ci ended with status $status and the line '$(cat "$room/verdict")'" >&2
     exit 1
 }
 
