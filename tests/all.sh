@@ -9,9 +9,16 @@ tests/export-contracts.sh
 
 room=$(mktemp -d)
 trap 'rm -rf "$room"' EXIT
-# What rt ci says is shown as it comes, but for its last line; through a fifo, since a pipe would hide its status.
+# What rt ci says is shown as it comes, but for its last line; through a fifo, since behind a pipe its status would be lost.
 mkfifo "$room/said"
-awk -v verdict="$room/verdict" 'NR > 1 { print line; fflush() } { line = $0 } END { print line >verdict }' <"$room/said" &
+{
+    IFS= read -r last
+    while IFS= read -r line; do
+        printf '%s\n' "$last"
+        last=$line
+    done
+    printf '%s\n' "$last" >"$room/verdict"
+} <"$room/said" &
 status=0
 rt ci >"$room/said" 2>&1 || status=$?
 wait

@@ -18,8 +18,8 @@ use Rattle.complex.proofs.Sums.{Σ-cong, ⊗-Σ, Σ-blocks, Σℤ-cong, Σ-comp
 use Rattle.complex.proofs.Lists.{listed-at}
 use Rattle.codes.specs.Signs.{_at_}
 use Rattle.codes.specs.Held.{packed, sign-bit, secondary-row}
-use Rattle.codes.proofs.Rows.{read-back, a-test, a-signs-test, b-test}
 use Rattle.codes.specs.SyncCodes.{a, a-signs, b, b-signs, Cp, C, hadamard-part, is-sync-code}
+use Rattle.codes.proofs.Rows.{read-back, a-test, a-signs-test, b-test}
 use Rattle.codes.proofs.Parts.{Cp-parts, C-parts, secondary-signs, sync-code-below}
 use Rattle.analyser_parts.specs.Correlation.{correlation, P, S}
 use Rattle.analyser_parts.specs.Held.{correlated, part-sums, primary-sum, signed-sum}

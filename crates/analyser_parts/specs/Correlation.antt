@@ -1,8 +1,7 @@
 -- Document 01, "Analyser calls": the correlations of read sync and find.
-use lib.IntN.{ℤ}
-use Prim.Native.Nat.{ℕ, _+_}
+use Prim.Native.Nat.{ℕ}
 use Rattle.complex.specs.declared.Complex.{Complex}
-use Rattle.complex.specs.Arithmetic.{_⊗_, conj, Σ<, squared-size}
+use Rattle.complex.specs.Arithmetic.{_⊗_, conj, Σ<}
 use Rattle.codes.specs.SyncCodes.{Cp, C}
 
 -- the sum over 256 chips of chip × conj(code)

@@ -4,14 +4,14 @@ use lib.IntN.{ℤ, pos, _*ℤ_}
 use Prim.Native.Nat.{ℕ, _<_, _+_, _*_}
 use mathlib.Core.Bool.{true, cond}
 use lib.Signed.{leZ, ltZ}
-use Rattle.complex.specs.Buffers.{value, listed}
-use Rattle.analyser_parts.specs.declared.largest.Largest.{Largest}
 use mathlib.Core.List.{List}
 use lib.ListN.{getD}
+use Rattle.complex.specs.Buffers.{value, listed}
 use Rattle.complex.specs.declared.Complex.{Complex}
-use Rattle.complex.specs.Arithmetic.{_+j_, _⊗_, conj, Σℤ<, squared-size}
+use Rattle.complex.specs.Arithmetic.{_+j_, _⊗_, conj, Σℤ<}
 use Rattle.codes.specs.Held.{packed, sign-bit}
 use Rattle.codes.specs.SyncCodes.{a, a-signs}
+use Rattle.analyser_parts.specs.declared.largest.Largest.{Largest}
 
 -- ---- the largest of values that come one after another
 -- the larger of two values, the earlier one where they are equal

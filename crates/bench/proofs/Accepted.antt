@@ -13,10 +13,10 @@ use Rattle.codes.specs.Refusals.{refused, gives, Refusal, _otherwise_, outcome,
 use Rattle.codes.specs.Tree.{is-spreading-factor}
 use Rattle.codes.proofs.Refused.{numbered, Passed, passed, accepted, not-accepted, refused-early, passed-early}
 use Rattle.codes.proofs.Factors.{factor-range}
+use Rattle.tables.proofs.Blocks.{Code}
 use Rattle.bench.specs.Held.{code-refusals}
 use Rattle.bench.specs.declared.Bench.{Bench}
 use Rattle.bench.specs.BenchCalls.{bad-gain, left-by}
-use Rattle.tables.proofs.Blocks.{Code}
 
 -- ---- the two ways of a call whose tests found number n: it refuses and the bench stays, or it accepts and leaves the new bench
 module _ (rs : List Refusal) (b new : Bench) {n : ℕ} (e : n ≡ number rs) where

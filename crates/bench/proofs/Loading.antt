@@ -16,9 +16,9 @@ use Rattle.codes.proofs.Refused.{Passed}
 use Rattle.codes.proofs.Tests.{each-at}
 use Rattle.slot.specs.Setup.{Setup}
 use Rattle.slot.specs.Slot.{bit-count, burst-type}
-use Rattle.bench.proofs.Accepted.{good-code}
 use Rattle.tables.specs.Bits.{has-byte-above-1}
 use Rattle.bench.specs.BenchCalls.{load-bits-refusals}
+use Rattle.bench.proofs.Accepted.{good-code}
 
 -- ---- a code
 -- it has an even count of bits in every burst type

@@ -9,14 +9,14 @@ use lib.Dec.{eqb}
 use lib.ListN.{getD}
 use Rattle.complex.specs.Buffers.{listed}
 use Rattle.codes.specs.Tree.{is-code, related}
+use Rattle.modulation.specs.Nodes.{node}
 use Rattle.slot.specs.declared.Settings.{Settings}
 use Rattle.slot.specs.Setup.{is-open, is-some}
 use Rattle.slot.specs.Slot.{bit-count}
-use Rattle.modulation.specs.Nodes.{node}
 use Rattle.slot.specs.Tables.{held-bit, held-channel, view, view-channel}
+use Rattle.tables.specs.Held.{open-at}
 use Rattle.bench.specs.BenchCalls.{related-to-open, some-code}
 use Rattle.bench.specs.Held.{clashes}
-use Rattle.tables.specs.Held.{open-at}
 
 -- a channel is held where the gain is not 0
 held : (g : ℕ) (bits : List ℕ) → is-some (held-channel g bits) ≡ not (eqb g 0)

@@ -15,6 +15,7 @@ use Rattle.slot.specs.declared.Settings.{Settings}
 use Rattle.slot.specs.Setup.{Setup, is-open}
 use Rattle.slot.specs.Slot.{slot-length, bit-count, chip}
 use Rattle.slot.specs.Tables.{view}
+use Rattle.tables.specs.Bits.{has-byte-above-1}
 use Rattle.bench.specs.declared.Bench.{Bench}
 use Rattle.bench.specs.declared.Channel.{Channel}
 use Rattle.bench.specs.declared.CallAnswer.{CallAnswer}
@@ -24,7 +25,6 @@ use Rattle.bench.specs.declared.PlanAnswer.the-variants.{Loaded, Refused
 use Rattle.bench.specs.declared.DrawAnswer.{DrawAnswer}
 use Rattle.bench.specs.declared.DrawAnswer.the-variants.{Drew, Refused as NotDrawn}
 use Rattle.bench.specs.Changes.{with-gain, with-bits, with-sync, no-sync, closed, all-closed, with-settings}
-use Rattle.tables.specs.Bits.{has-byte-above-1}
 
 -- "the air: no slot, or a copy of the settings with a position": the copy is `sending`, and counts while `running` is not 0
 abbrev pub under-way : Bench → Bool

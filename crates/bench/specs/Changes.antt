@@ -3,11 +3,11 @@ use Prim.Native.Nat.{ℕ}
 use mathlib.Core.List.{List}
 use lib.ListN.{set, replicate}
 use Rattle.codes.specs.declared.CellParameter.{CellParameter}
+use Rattle.modulation.specs.Nodes.{node}
 use Rattle.slot.specs.declared.Settings.{Settings}
 use Rattle.slot.specs.declared.Sync.{Sync}
-use Rattle.modulation.specs.Nodes.{node}
-use Rattle.bench.specs.declared.Bench.{Bench}
 use Rattle.tables.specs.Bits.{pairs-with}
+use Rattle.bench.specs.declared.Bench.{Bench}
 
 abbrev pub with-gains : Settings → List ℕ → Settings
 with-gains s g = record { cell = s .cell; kind = s .kind; gains = g; pairs = s .pairs; sync = s .sync }

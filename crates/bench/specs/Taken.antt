@@ -7,14 +7,13 @@ use lib.Dec.{eqb}
 use lib.ListN.{replicate, set}
 use Rattle.codes.specs.Refusals.{number}
 use Rattle.modulation.specs.Nodes.{node}
-use Rattle.slot.specs.declared.Settings.{Settings}
 use Rattle.slot.specs.Tables.{view}
+use Rattle.tables.specs.Held.{with-open-cleared}
 use Rattle.bench.specs.declared.Bench.{Bench}
 use Rattle.bench.specs.declared.Channel.{Channel}
 use Rattle.bench.specs.declared.taken.Taken.{Taken}
 use Rattle.bench.specs.BenchCalls.{AnswerAt, refused-at, loads, fresh-settings, open-refusals}
 use Rattle.bench.specs.Changes.{with-gains, with-pairs, with-settings}
-use Rattle.tables.specs.Held.{with-open-cleared}
 
 -- every record so far was opened, which made these gains
 abbrev pub all-opened : List ℕ → Taken

@@ -3,11 +3,11 @@
 // and hands back the bench that it was given.
 ghost use mathlib.Core.Path.{_≡_};
 ghost use lib.ListN.{length, take};
-ghost use Rattle.complex.specs.Buffers.{written};
-ghost use Rattle.codes.specs.Refusals.{after, gives, outcome, refused};
 ghost use mathlib.Core.Bool.{cond};
 ghost use Prim.Native.Nat.{_≤_};
 ghost use lib.Dec.{eqb, leb};
+ghost use Rattle.complex.specs.Buffers.{written};
+ghost use Rattle.codes.specs.Refusals.{after, gives, outcome, refused};
 ghost use Rattle.bench.specs.Changes.{no-sync, with-gains, with-pairs, with-settings};
 ghost use Rattle.bench.specs.BenchCalls.{close-call, clear-sync-call, counted, draw-call, fresh, fresh-settings, left-by, load-bits-call, load-plan-call, open-call, plan-left-by, plan-outcome, set-cell-call, set-gain-call, set-sync-call, start-call, told-call, told-draw, told-plan};
 use codes::CellParameter;

@@ -15,13 +15,13 @@ use Rattle.complex.proofs.Components.{both-sign}
 use Rattle.codes.specs.Range.{each}
 use Rattle.codes.specs.Signs.{minus-if}
 use Rattle.codes.specs.Tree.{among}
-use Rattle.codes.proofs.Tests.{each-at}
-use Rattle.codes.proofs.Rows.{minus-if-within}
 use Rattle.codes.specs.declared.ModulatedCode.{ModulatedCode}
 use Rattle.codes.specs.declared.Allocated.{Allocated}
 use Rattle.codes.specs.declared.burst.CodeSet.{CodeSet}
 use Rattle.codes.specs.SyncCodes.{is-sync-code}
 use Rattle.codes.specs.Allocation.{row, code-set, signed, case-1, case-2, one-or-two, is-frame-and-half, allocation, with-unit, silent}
+use Rattle.codes.proofs.Tests.{each-at}
+use Rattle.codes.proofs.Rows.{minus-if-within}
 
 pub record Known (m : ModulatedCode) : Type 0 where
   pub listed : T (is-sync-code (m .code))

@@ -17,9 +17,9 @@ use Rattle.complex.specs.Fits.{Within}
 use Rattle.codes.specs.Signs.{_at_, minus-if}
 use Rattle.codes.specs.Held.{sign-bit, secondary-row}
 use Rattle.codes.specs.Range.{each}
+use Rattle.codes.specs.SyncCodes.{a, a-signs, b, b-signs, repeated, Cp, z, hadamard, hadamard-part, is-sync-code, sync-codes, C}
 use Rattle.codes.proofs.Tests.{each-at, same, same→eq, T-true, all-below, among-below}
 use Rattle.codes.proofs.Rows.{minus-if-within}
-use Rattle.codes.specs.SyncCodes.{a, a-signs, b, b-signs, repeated, Cp, z, hadamard, hadamard-part, is-sync-code, sync-codes, C}
 
 -- ---- the Hadamard matrix: n, below 16, changes no bit that it shares with a row 16i
 no-ones : ones 0 ≡ 0

@@ -19,8 +19,8 @@ use Rattle.codes.specs.AnnexA.{annex-A}
 use Rattle.codes.specs.Scrambling.{row, v, scrambling}
 use Rattle.codes.specs.Tree.{code}
 use Rattle.codes.specs.Range.{each}
-use Rattle.codes.proofs.Tests.{each-at, same, same→eq}
 use Rattle.codes.specs.SyncCodes.{a, a-signs, b, b-signs}
+use Rattle.codes.proofs.Tests.{each-at, same, same→eq}
 
 -- the row has 16 signs, and each is read back from the binary number
 unfoldable pub reads-back : List ℤ → Bool

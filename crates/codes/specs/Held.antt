@@ -6,10 +6,10 @@ use Prim.Native.Nat.{ℕ, zero, suc, _+_, _*_, _-_, _/_, _%_, _^_}
 use mathlib.Core.List.{List, [], _∷_, map}
 use mathlib.Core.Bool.{cond}
 use lib.Dec.{eqb, ltb}
-use Rattle.codes.specs.Signs.{minus-if, _at_}
-use Rattle.codes.specs.Tree.{code}
 use lib.Bits.{bitAnd}
 use lib.Count.{ones}
+use Rattle.codes.specs.Signs.{minus-if, _at_}
+use Rattle.codes.specs.Tree.{code}
 use Rattle.codes.specs.SyncCodes.{b-signs}
 
 -- a row of signs as a binary number, the first sign first, 1 for 1 and 0 for -1

@@ -19,8 +19,8 @@ use Rattle.slot.proofs.BurstPlace.{burst-whole, without-sync}
 use Rattle.read_sync.specs.SyncReading.{of-group, read-sync-call}
 use Rattle.demands.specs.Slots.{Slot}
 use Rattle.demands.specs.Fields.{Drawn, chips-from}
-use Rattle.demands.proofs.BurstReadBack.{burst-read-back}
 use Rattle.demands.specs.Valid.{HeldSync, Valid}
+use Rattle.demands.proofs.BurstReadBack.{burst-read-back}
 use Rattle.demands.proofs.History.{Good}
 use Rattle.demands.proofs.FieldReadings.{in-buffers-cong, drawn-part}
 

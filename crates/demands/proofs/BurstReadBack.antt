@@ -17,17 +17,17 @@ use Rattle.complex.proofs.Lists.{length-listed, value-in-buffers}
 use Rattle.complex.proofs.Order.{times-ltZ}
 use Rattle.complex.proofs.Sizes.{within-more}
 use Rattle.codes.specs.Refusals.{gives}
-use Rattle.codes.proofs.Tests.{T-true}
 use Rattle.codes.specs.declared.ModulatedCode.{ModulatedCode}
 use Rattle.codes.specs.declared.Allocated.{Allocated}
 use Rattle.codes.specs.Allocation.{one-or-two, is-frame-and-half}
 use Rattle.codes.specs.Burst.{burst}
 use Rattle.codes.specs.SyncCodes.{Cp, C}
+use Rattle.codes.proofs.Tests.{T-true}
+use Rattle.analyser_parts.specs.Components.{outside}
+use Rattle.analyser_parts.proofs.Ranges.{none-outside}
 use Rattle.read_sync.specs.declared.Candidate.{Candidate}
 use Rattle.read_sync.specs.SyncReading.{of-group, candidate, candidates, share, total-share, score, winner, read-sync-call}
-use Rattle.analyser_parts.specs.Components.{outside}
 use Rattle.read_sync.proofs.Leading.{beats-all}
-use Rattle.analyser_parts.proofs.Ranges.{none-outside}
 use Rattle.demands.proofs.BurstCorrelations.{agreement, chips, scale, correlation-cong, score-of}
 use Rattle.demands.proofs.Candidates.{has-number, chosen, chosen-known, agrees-less}
 use Rattle.demands.proofs.BurstSizes.{chips-within}

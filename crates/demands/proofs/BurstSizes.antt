@@ -12,11 +12,11 @@ use Rattle.complex.specs.Fits.{Within, Both}
 use Rattle.complex.proofs.Sizes.{within-mul}
 use Rattle.complex.proofs.Ring.{real-one-plus-j}
 use Rattle.complex.proofs.Components.{gained-within, both-⊕, both-⊗, both-more}
-use Rattle.codes.proofs.Rows.{row-within, minus-if-within, a-test, a-signs-test, b-test, b-signs-test}
 use Rattle.codes.specs.declared.ModulatedCode.{ModulatedCode}
 use Rattle.codes.specs.declared.Allocated.{Allocated}
 use Rattle.codes.specs.SyncCodes.{a, a-signs, b, b-signs, repeated, Cp, C, z, hadamard, is-sync-code}
 use Rattle.codes.specs.Burst.{secondaries}
+use Rattle.codes.proofs.Rows.{row-within, minus-if-within, a-test, a-signs-test, b-test, b-signs-test}
 use Rattle.codes.proofs.Allocations.{Known, AllKnown}
 use Rattle.demands.proofs.BurstCorrelations.{chips}
 

@@ -13,9 +13,9 @@ use lib.IntN.{pos}
 use lib.Signed.{ltZ}
 use Rattle.complex.specs.Arithmetic.{real, 𝟏, 𝐣, _⊗_}
 use Rattle.codes.specs.Range.{each}
-use Rattle.codes.proofs.Tests.{each-at, same, same→eq, T-true}
 use Rattle.codes.specs.declared.Allocated.{Allocated}
 use Rattle.codes.specs.Allocation.{allocation, one-or-two, is-frame-and-half, case-1, case-2, signed, row, code-set}
+use Rattle.codes.proofs.Tests.{each-at, same, same→eq, T-true}
 use Rattle.codes.proofs.Allocations.{AllKnown, allocation-known}
 use Rattle.read_sync.specs.declared.Candidate.{Candidate}
 use Rattle.read_sync.specs.SyncReading.{of-group, candidate, candidates, sent}

@@ -8,12 +8,12 @@ use lib.ListN.{length}
 use denote.Ref.{now}
 use Rattle.complex.specs.Buffers.{Values, written}
 use Rattle.codes.specs.Refusals.{Answer, gives, outcome, after}
+use Rattle.bench.specs.declared.Bench.{Bench}
+use Rattle.bench.specs.BenchCalls.{AnswerAt}
 use Rattle.read.specs.Reading.{read-call}
 use Rattle.harden.specs.Hardening.{harden-call}
 use Rattle.read_sync.specs.declared.Candidate.{Candidate}
 use Rattle.read_sync.specs.SyncReading.{read-sync-call}
-use Rattle.bench.specs.declared.Bench.{Bench}
-use Rattle.bench.specs.BenchCalls.{AnswerAt}
 use Rattle.demands.specs.Calls.{Call, Step, tell, tell-plan, tell-draw}
 use Rattle.demands.specs.Runs.{Ran, by-set-cell, by-open, by-load-plan, by-load-records, by-close, by-set-gain, by-load-bits, by-set-sync, by-clear-sync, by-start, by-draw}
 use Rattle.demands.specs.AnalyserRuns.{Output, RanRead, by-read, RanHarden, by-harden, RanReadSync, by-read-sync, wrote, wrote-bits}

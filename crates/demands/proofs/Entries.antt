@@ -23,9 +23,9 @@ use Rattle.modulation.specs.Symbols.{pair}
 use Rattle.slot.specs.Slot.{data-chips, bit-count}
 use Rattle.slot.specs.Tables.{place, held-bit}
 use Rattle.slot.proofs.Lengths.{lengths-of}
-use Rattle.bench.specs.BenchCalls.{some-code}
 use Rattle.tables.specs.Bits.{owns, pair-number, pairs-with}
 use Rattle.tables.proofs.Blocks.{Code, pairs-in-block}
+use Rattle.bench.specs.BenchCalls.{some-code}
 
 -- ---- codes
 pub code-of : (Q k : ℕ) → is-code Q k ≡ true → Code Q k

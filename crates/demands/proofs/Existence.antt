@@ -7,16 +7,6 @@ use lib.ListN.{length, take}
 use denote.Ref.{RefT}
 use Rattle.complex.specs.Buffers.{Values, written}
 use Rattle.codes.specs.Refusals.{Answer, refused, gives, outcome, after}
-use Rattle.read.specs.declared.ReadAnswer.{ReadAnswer}
-use Rattle.read.specs.declared.ReadAnswer.the-variants.{Read, Refused as NotRead}
-use Rattle.harden.specs.declared.HardenAnswer.{HardenAnswer}
-use Rattle.harden.specs.declared.HardenAnswer.the-variants.{Hardened, Refused as NotHardened}
-use Rattle.read.specs.Reading.{read-call, told-read}
-use Rattle.harden.specs.Hardening.{harden-call, told-harden}
-use Rattle.read_sync.specs.declared.Candidate.{Candidate}
-use Rattle.read_sync.specs.declared.SyncAnswer.{SyncAnswer}
-use Rattle.read_sync.specs.declared.SyncAnswer.the-variants.{Burst, Refused as NotFound}
-use Rattle.read_sync.specs.SyncReading.{read-sync-call, told-sync}
 use Rattle.bench.specs.declared.Bench.{Bench}
 use Rattle.bench.specs.declared.PlanRecords.{PlanRecords}
 use Rattle.bench.specs.declared.Answered.{Answered}
@@ -28,6 +18,16 @@ use Rattle.bench.specs.declared.PlanAnswer.the-variants.{Loaded, Refused as Not
 use Rattle.bench.specs.declared.DrawAnswer.{DrawAnswer}
 use Rattle.bench.specs.declared.DrawAnswer.the-variants.{Drew, Refused as NotDrawn}
 use Rattle.bench.specs.BenchCalls.{AnswerAt, refused-at, loads, told-call, told-plan, told-draw, set-cell-call, open-call, load-plan-call, plan-outcome, plan-left-by, close-call, set-gain-call, load-bits-call, set-sync-call, clear-sync-call, start-call, draw-call, counted, left-by}
+use Rattle.read.specs.declared.ReadAnswer.{ReadAnswer}
+use Rattle.read.specs.declared.ReadAnswer.the-variants.{Read, Refused as NotRead}
+use Rattle.read.specs.Reading.{read-call, told-read}
+use Rattle.harden.specs.declared.HardenAnswer.{HardenAnswer}
+use Rattle.harden.specs.declared.HardenAnswer.the-variants.{Hardened, Refused as NotHardened}
+use Rattle.harden.specs.Hardening.{harden-call, told-harden}
+use Rattle.read_sync.specs.declared.Candidate.{Candidate}
+use Rattle.read_sync.specs.declared.SyncAnswer.{SyncAnswer}
+use Rattle.read_sync.specs.declared.SyncAnswer.the-variants.{Burst, Refused as NotFound}
+use Rattle.read_sync.specs.SyncReading.{read-sync-call, told-sync}
 use Rattle.demands.specs.Calls.{Call, set-cell, open-code, load-plan, close, set-gain, load-bits, set-sync, clear-sync, start, draw, Step}
 use Rattle.demands.specs.Runs.{Ran, by-set-cell, by-open, by-load-plan, by-load-records, by-close, by-set-gain, by-load-bits, by-set-sync, by-clear-sync, by-start, by-draw}
 use Rattle.demands.specs.AnalyserRuns.{Output, RanRead, by-read, RanHarden, by-harden, RanReadSync, by-read-sync}

@@ -18,18 +18,18 @@ use Rattle.complex.proofs.Components.{both-⊕}
 use Rattle.complex.proofs.Lists.{length-listed, listed-at}
 use Rattle.codes.specs.Scrambling.{code-group}
 use Rattle.codes.specs.Tree.{among}
-use Rattle.codes.proofs.Factors.{of-all}
 use Rattle.codes.specs.Burst.{burst, burst-start}
+use Rattle.codes.proofs.Factors.{of-all}
 use Rattle.codes.proofs.Allocations.{allocation-known}
 use Rattle.slot.specs.declared.parts.Parts.{Parts}
 use Rattle.slot.specs.Setup.{SyncSetup, Setup}
 use Rattle.slot.specs.Slot.{burst-type, data-chip, sync-chip, chip}
-use Rattle.demands.specs.Fields.{Field, field-1, field-2, field-length, field-start, field-before, part}
-use Rattle.demands.proofs.BurstCorrelations.{chips}
-use Rattle.demands.proofs.BurstSizes.{chips-within}
-use Rattle.demands.specs.Valid.{HeldSync, Valid}
 use Rattle.orthogonality.proofs.Unrelated.{Unrelated}
 use Rattle.orthogonality.proofs.DataSizes.{data-within}
+use Rattle.demands.specs.Fields.{Field, field-1, field-2, field-length, field-start, field-before, part}
+use Rattle.demands.specs.Valid.{HeldSync, Valid}
+use Rattle.demands.proofs.BurstCorrelations.{chips}
+use Rattle.demands.proofs.BurstSizes.{chips-within}
 
 -- ---- a part of the chips that were drawn
 pub part-listed : {A : Type 0} (d : A) (g : ℕ → A) (at n count : ℕ) → at + n ≤ count → part at n (listed count g) ≡ listed n (λ i. g (at + i))

@@ -23,15 +23,15 @@ use Rattle.codes.specs.Scrambling.{scrambling, code-group}
 use Rattle.codes.specs.Tree.{is-code, element}
 use Rattle.codes.specs.Burst.{burst-start}
 use Rattle.codes.proofs.Tests.{each-at, T-true}
-use Rattle.read.specs.Reading.{reading, read-call}
-use Rattle.analyser_parts.proofs.Ranges.{none-outside}
 use Rattle.slot.specs.Setup.{SyncSetup, Setup, is-some}
 use Rattle.slot.specs.Slot.{data-chip, sync-chip, chip}
+use Rattle.analyser_parts.proofs.Ranges.{none-outside}
+use Rattle.read.specs.Reading.{reading, read-call}
 use Rattle.demands.specs.Slots.{Slot, InOrder}
 use Rattle.demands.specs.Fields.{Field, field-length, field-start, field-before, part, Drawn, DrawnWhole, chips-from, drawn-field, reading-count, Suffice, burst-at, no-burst}
+use Rattle.demands.specs.Valid.{Valid}
 use Rattle.demands.proofs.Readings.{reading-additive}
 use Rattle.demands.proofs.Entries.{code-of}
-use Rattle.demands.specs.Valid.{Valid}
 use Rattle.demands.proofs.FieldChips.{part-listed, Readable, readable, field-sync, chip-in-field, chip-within}
 
 -- equal values, equal buffers

@@ -23,12 +23,12 @@ use Rattle.codes.proofs.Tests.{each-all}
 use Rattle.modulation.specs.Symbols.{pair, symbol}
 use Rattle.slot.specs.Setup.{Channel, Setup, is-some}
 use Rattle.slot.specs.Slot.{burst-type, bit-count}
-use Rattle.harden.specs.Hardening.{hard-pair, hard-bit, harden-call}
 use Rattle.tables.proofs.Blocks.{Code}
-use Rattle.demands.specs.Fields.{Field, field-1, field-2, field-length, field-before, part, reading-count, own-symbol, own-readings, no-burst, field-bits}
-use Rattle.demands.proofs.Entries.{code-of}
-use Rattle.demands.specs.Valid.{Held, Valid}
+use Rattle.harden.specs.Hardening.{hard-pair, hard-bit, harden-call}
 use Rattle.orthogonality.proofs.Hardened.{hardened}
+use Rattle.demands.specs.Fields.{Field, field-1, field-2, field-length, field-before, part, reading-count, own-symbol, own-readings, no-burst, field-bits}
+use Rattle.demands.specs.Valid.{Held, Valid}
+use Rattle.demands.proofs.Entries.{code-of}
 
 -- ---- the bits of the two fields are those of the channel
 -- a channel's bits are two for each reading of both fields

@@ -19,17 +19,17 @@ use Rattle.slot.specs.Setup.{Channel, Setup, is-some, is-open}
 use Rattle.slot.specs.Slot.{data-chip, sync-chip, chip}
 use Rattle.analyser_parts.specs.Components.{outside}
 use Rattle.analyser_parts.proofs.Ranges.{none-outside}
+use Rattle.orthogonality.proofs.Unrelated.{Free}
+use Rattle.orthogonality.proofs.DataReadings.{own-data, unrelated-data}
 use Rattle.demands.specs.Reference.{with-sync}
 use Rattle.demands.specs.Slots.{Slot}
 use Rattle.demands.specs.Fields.{Field, field-length, field-start, field-before, DrawnWhole, drawn-field, reading-count, Suffice, own-readings, unrelated, zero-readings, no-burst, burst-field, quiet-field, added}
-use Rattle.demands.proofs.Entries.{code-of, no-code-passes}
 use Rattle.demands.specs.Valid.{Valid}
+use Rattle.demands.proofs.Entries.{code-of, no-code-passes}
 use Rattle.demands.proofs.Valid.{sync-cleared-valid}
 use Rattle.demands.proofs.History.{Good}
 use Rattle.demands.proofs.FieldChips.{readable, field-sync, chip-in-field, sync-within, chip-within}
 use Rattle.demands.proofs.FieldReadings.{in-buffers-cong, silent-reading, field-cong, read-gives, quiet-chip, read-of, of-data, of-burst, reads}
-use Rattle.orthogonality.proofs.Unrelated.{Free}
-use Rattle.orthogonality.proofs.DataReadings.{own-data, unrelated-data}
 
 -- ---- what the data of a field reads
 module _ (s : Setup) (v : Valid s) (f : Field) (Q k : ℕ) where

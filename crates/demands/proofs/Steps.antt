@@ -15,25 +15,25 @@ use Rattle.complex.specs.Buffers.{Values, written, in-buffers}
 use Rattle.complex.proofs.Lists.{take-written}
 use Rattle.codes.specs.Refusals.{Answer, refused, gives, Refusal, _otherwise_}
 use Rattle.codes.proofs.Refused.{Passed}
-use Rattle.slot.specs.declared.Settings.{Settings}
 use Rattle.modulation.specs.Nodes.{node}
+use Rattle.slot.specs.declared.Settings.{Settings}
 use Rattle.slot.specs.Setup.{Setup, is-some, is-open}
 use Rattle.slot.specs.Slot.{slot-length, bit-count, chip}
 use Rattle.slot.specs.Tables.{view}
+use Rattle.tables.proofs.Blocks.{is-bit}
 use Rattle.bench.specs.declared.Bench.{Bench}
 use Rattle.bench.specs.declared.Channel.{Channel as Record}
 use Rattle.bench.specs.Changes as Tables
 use Rattle.bench.specs.BenchCalls.{under-way, fresh, set-cell-refusals, open-refusals, bad-gain, refused-at, opened-in-turn, close-refusals, set-gain-refusals, load-bits-refusals, set-sync-refusals, start-refusals, Draw, draw-refusals, moved-on}
 use Rattle.bench.proofs.Accepted.{good-code, gain-range}
-use Rattle.tables.proofs.Blocks.{is-bit}
 use Rattle.demands.specs.Calls.{Call, set-cell, open-code, load-plan, close, set-gain, load-bits, set-sync, clear-sync, start, draw, drew, Step}
 use Rattle.demands.specs.Reference.{Reference, fresh-reference, opened, closed, gain-set, bits-loaded, with-sync, records-opened, under-way as copy-there, by-entry, by-plan, started, copy-chip, drawn, reference-step, fed}
 use Rattle.demands.specs.Runs.{Ran}
+use Rattle.demands.specs.Valid.{Valid, ValidReference}
 use Rattle.demands.proofs.BenchSteps.{bench-step, called, planned, drawn as bench-drawn}
 use Rattle.demands.proofs.Contracts.{ran-step}
 use Rattle.demands.proofs.TableLaws.{view-cell-set, view-nothing-open, view-sync-set, view-sync-cleared, view-opened, view-closed, view-gain-set, view-bits-loaded}
 use Rattle.demands.proofs.Otherwise.{alike}
-use Rattle.demands.specs.Valid.{Valid, ValidReference}
 use Rattle.demands.proofs.Valid.{only-itself, cell-set-valid, opened-valid, closed-valid, gain-set-valid, bits-loaded-valid, sync-set-valid, sync-cleared-valid, nothing-open-valid, fresh-reference-valid}
 
 -- the reference model that a bench stands for

@@ -13,8 +13,8 @@ use Rattle.complex.proofs.Ring.{products, ⊗-swap, conj-⊗, conj-real, real-*
 use Rattle.complex.proofs.Sums.{Σ-cong, Σ-blocks, ⊗-Σ, real-Σ}
 use Rattle.codes.specs.Signs.{_at_}
 use Rattle.codes.specs.Range.{each}
-use Rattle.codes.proofs.Tests.{each-at, same, same→eq}
 use Rattle.codes.specs.SyncCodes.{a, a-signs, b, b-signs, Cp, C, hadamard, hadamard-part, is-sync-code}
+use Rattle.codes.proofs.Tests.{each-at, same, same→eq}
 use Rattle.codes.proofs.Parts.{Cp-parts, C-parts, sync-code-below}
 use Rattle.analyser_parts.specs.Correlation.{correlation}
 

@@ -20,10 +20,10 @@ use Rattle.slot.specs.declared.Settings.{Settings}
 use Rattle.slot.specs.Setup.{Channel, Setup, is-some, is-open}
 use Rattle.slot.specs.Slot.{bit-count}
 use Rattle.slot.specs.Tables.{held-bit, held-channel, view-sync, view-channel, view}
-use Rattle.bench.specs.BenchCalls.{related-to-open}
-use Rattle.bench.specs.Changes as Tables
 use Rattle.tables.specs.Bits.{pairs-with}
 use Rattle.tables.proofs.Blocks.{Code}
+use Rattle.bench.specs.BenchCalls.{related-to-open}
+use Rattle.bench.specs.Changes as Tables
 use Rattle.demands.specs.Reference.{cell-set, with-channel, opened, closed, changed, gain-set, bits-loaded, with-sync, nothing-open}
 use Rattle.demands.proofs.Entries.{code-of, no-code-passes, node-below, same-node, own-bit, other-bit}
 

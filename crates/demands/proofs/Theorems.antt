@@ -15,12 +15,12 @@ use Rattle.codes.specs.Tree.{is-code}
 use Rattle.codes.specs.Scrambling.{code-group}
 use Rattle.codes.specs.Burst.{burst-start}
 use Rattle.slot.specs.Setup.{Channel, SyncSetup, Setup}
+use Rattle.bench.specs.declared.Bench.{Bench}
+use Rattle.bench.specs.BenchCalls.{fresh}
 use Rattle.analyser_parts.specs.Components.{outside}
 use Rattle.harden.specs.Hardening.{harden-call}
 use Rattle.read_sync.specs.declared.Candidate.{Candidate}
 use Rattle.read_sync.specs.SyncReading.{of-group}
-use Rattle.bench.specs.declared.Bench.{Bench}
-use Rattle.bench.specs.BenchCalls.{fresh}
 use Rattle.demands.specs.Calls.{Call, draw, refused-by, Step}
 use Rattle.demands.specs.Reference.{Reference, fresh-reference, fed, told-by, left-after}
 use Rattle.demands.specs.Runs.{Ran, RunFrom, ended, _then_, Run, told-in, left-in}

@@ -12,14 +12,14 @@ use lib.Dec.{T, eqb, eqb→eq}
 use lib.ListN.{getD, replicate, length-replicate}
 use mir.Facts.{and-yes}
 use Rattle.codes.specs.Tree.{among, is-code, at-or-above, related}
+use Rattle.codes.specs.Allocation.{one-or-two, is-frame-and-half}
 use Rattle.codes.proofs.Refused.{Passed}
 use Rattle.codes.proofs.Tests.{neither}
-use Rattle.codes.specs.Allocation.{one-or-two, is-frame-and-half}
 use Rattle.slot.specs.Setup.{Channel, SyncSetup, Setup, is-some, is-open}
 use Rattle.slot.specs.Slot.{bit-count}
+use Rattle.tables.proofs.Blocks.{is-bit}
 use Rattle.bench.specs.BenchCalls.{bad-gain, related-to-open, set-cell-refusals, open-refusals, close-refusals, set-gain-refusals, load-bits-refusals, set-sync-refusals}
 use Rattle.bench.proofs.Accepted.{good-code, gain-range}
-use Rattle.tables.proofs.Blocks.{is-bit}
 use Rattle.demands.specs.Reference.{cell-set, fresh-reference, with-channel, opened, closed, changed, gain-set, bits-loaded, with-sync, nothing-open}
 use Rattle.demands.specs.Valid.{Held, HeldSync, Valid, ValidReference}
 use Rattle.demands.proofs.Entries.{code-of, no-code-passes}

@@ -7,10 +7,10 @@ use denote.Ref.{RefT, now}
 use Rattle.complex.specs.Buffers.{Values, written}
 use Rattle.codes.specs.Refusals.{Answer, gives}
 use Rattle.read.specs.declared.ReadAnswer.{ReadAnswer}
-use Rattle.harden.specs.declared.HardenAnswer.{HardenAnswer}
 use Rattle.read.specs.Reading.{told-read}
-use Rattle.harden.specs.Hardening.{told-harden}
 use Rattle.read.proofs.read.Reads as read-contract
+use Rattle.harden.specs.declared.HardenAnswer.{HardenAnswer}
+use Rattle.harden.specs.Hardening.{told-harden}
 use Rattle.harden.proofs.harden.Reads as harden-contract
 use Rattle.read_sync.specs.declared.Candidate.{Candidate}
 use Rattle.read_sync.specs.declared.SyncAnswer.{SyncAnswer}

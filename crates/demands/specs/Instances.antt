@@ -4,6 +4,7 @@ use Prim.Native.Nat.{ℕ}
 use mathlib.Core.Bool.{Bool, true, false}
 use mathlib.Core.List.{List, [], _∷_, map}
 use mathlib.Core.Option.{some}
+use lib.ListN.{getD}
 use Rattle.complex.specs.declared.Complex.{Complex}
 use Rattle.complex.specs.Arithmetic.{_+j_}
 use Rattle.complex.specs.Buffers.{listed}
@@ -18,7 +19,6 @@ use Rattle.slot.specs.Slot.{chip}
 use Rattle.read.specs.Reading.{reading}
 use Rattle.harden.specs.Hardening.{hard-bit}
 use Rattle.demands.specs.Reference.{cell-set, with-channel}
-use lib.ListN.{getD}
 
 -- the values that an instance speaks of
 pub data Value : Type 0 where

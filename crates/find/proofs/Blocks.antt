@@ -19,8 +19,8 @@ use Rattle.complex.proofs.Order.{ltZ-true, ltZ-false, leZ-true, leZ-false, le-l
 use Rattle.analyser_parts.specs.Held.{or-later, Peaks}
 use Rattle.analyser_parts.specs.declared.largest.Largest.{Largest}
 use Rattle.analyser_parts.proofs.Choosing.{next}
-use Rattle.find.specs.Held.{Bounded, Covers, entries, lower-of, lowered-of, PeaksBelow, size-of}
 use Rattle.analyser_parts.proofs.Correlations.{times-one-minus-j}
+use Rattle.find.specs.Held.{Bounded, Covers, entries, lower-of, lowered-of, PeaksBelow, size-of}
 
 -- ---- the starts passed
 module _ (s : ℕ → ℤ) (count : ℕ) where

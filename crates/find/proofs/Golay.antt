@@ -1,4 +1,5 @@
--- The primary code is a Golay sequence: four steps of sums and differences make the correlation with it. Assumes nothing.
+-- The primary code is a Golay sequence: four steps of sums and differences make the correlation with it. The steps are the code itself: which terms
+-- they add and which they take away are the signs of `a` and `a-signs`, and the laws here hold them to the rows of `codes`. Assumes nothing.
 use mathlib.Core.Path.{_≡_, sym, ap, _∙_, subst}
 use mathlib.Core.List.{List}
 use Prim.Native.Nat.{ℕ, _+_, _*_, _-_, _<_, _≤_}
@@ -20,11 +21,11 @@ use Rattle.complex.proofs.Sizes.{fits-within, within-add, within-sub}
 use Rattle.complex.proofs.Sums.{Σℤ-cong}
 use Rattle.codes.specs.Held.{packed, sign-bit}
 use Rattle.codes.specs.SyncCodes.{a, a-signs}
-use Rattle.find.specs.Finding.{size-from}
-use Rattle.find.specs.Held.{entries, four-of, size-of}
 use Rattle.analyser_parts.specs.Held.{primary-sum, signed-sum}
 use Rattle.analyser_parts.proofs.Products.{held}
 use Rattle.analyser_parts.proofs.Correlations.{primary-from}
+use Rattle.find.specs.Finding.{size-from}
+use Rattle.find.specs.Held.{entries, four-of, size-of}
 
 -- what a local holds that was read from a list
 pub read-is : {z : ℤ} → Within 6400000 z → toZ w32 (ofZ w32 z) ≡ z

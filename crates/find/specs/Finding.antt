@@ -12,10 +12,10 @@ use Rattle.complex.specs.Buffers.{value}
 use Rattle.codes.specs.Refusals.{Answer, refused, gives, Refusal, _if_, _otherwise_}
 use Rattle.analyser_parts.specs.Choice.{smallest, has-largest}
 use Rattle.analyser_parts.specs.Components.{outside, either-shorter}
+use Rattle.analyser_parts.specs.Correlation.{P}
 use Rattle.find.specs.declared.Peak.{Peak}
 use Rattle.find.specs.declared.FindAnswer.{FindAnswer}
 use Rattle.find.specs.declared.FindAnswer.the-variants.{Found, Refused}
-use Rattle.analyser_parts.specs.Correlation.{P}
 
 -- the squared size of P over the 256 chips from a start on
 unfoldable pub size-from : (ℕ → Complex) → ℕ → ℤ

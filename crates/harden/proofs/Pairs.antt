@@ -11,8 +11,8 @@ use Rattle.complex.specs.declared.Complex.{Complex}
 use Rattle.complex.specs.Arithmetic.{_+j_}
 use Rattle.complex.proofs.Integers.{pos-part, neg-part, negℤ-pos-part, negℤ-neg-part, +ℤ-parts, by-parts}
 use Rattle.complex.proofs.Order.{ltZ-true, ltZ-false, le-leZ, lt-ltZ}
-use Rattle.harden.specs.Hardening.{pair-score, hard-pair, hard-bit}
 use Rattle.analyser_parts.proofs.Choosing.{peaks-is}
+use Rattle.harden.specs.Hardening.{pair-score, hard-pair, hard-bit}
 
 -- ---- -1 - y is a number of the width of y
 same-mag : (y : ℤ) → mag (negsuc 0 -ℤ y) ≡ mag y

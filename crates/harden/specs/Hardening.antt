@@ -8,9 +8,9 @@ use lib.ListN.{length, getD}
 use Rattle.complex.specs.declared.Complex.{Complex}
 use Rattle.complex.specs.Buffers.{value, listed}
 use Rattle.codes.specs.Refusals.{Answer, refused, gives, Refusal, _if_, _otherwise_}
+use Rattle.analyser_parts.specs.Choice.{smallest, has-largest}
 use Rattle.harden.specs.declared.HardenAnswer.{HardenAnswer}
 use Rattle.harden.specs.declared.HardenAnswer.the-variants.{Hardened, Refused}
-use Rattle.analyser_parts.specs.Choice.{smallest, has-largest}
 
 -- For reading y the pairs 00, 01, 10, 11 score im, re, -re, -im;
 unfoldable pub pair-score : Complex → ℕ → ℤ

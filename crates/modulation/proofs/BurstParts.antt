@@ -13,12 +13,12 @@ use Rattle.complex.proofs.Sizes.{within-more, within-add, within-sub, within-mu
 use Rattle.complex.proofs.Components.{both-⊕, both-sign}
 use Rattle.codes.specs.Signs.{_at_}
 use Rattle.codes.specs.Held.{sign-bit, secondary-row}
-use Rattle.codes.proofs.Rows.{sign-within, row-within, a-test, a-signs-test, b-test}
 use Rattle.codes.specs.declared.ModulatedCode.{ModulatedCode}
 use Rattle.codes.specs.declared.Allocated.{Allocated}
 use Rattle.codes.specs.SyncCodes.{a, a-signs, b, b-signs, Cp, C, hadamard-part, is-sync-code}
 use Rattle.codes.specs.Allocation.{allocation}
 use Rattle.codes.specs.Burst.{secondaries, burst}
+use Rattle.codes.proofs.Rows.{sign-within, row-within, a-test, a-signs-test, b-test}
 use Rattle.codes.proofs.Parts.{Cp-parts, C-parts, secondary-signs, sync-code-below}
 use Rattle.codes.proofs.Allocations.{AllKnown, allocation-known}
 use Rattle.modulation.specs.Held.{modulated-part, modulated-parts, part-chip}

@@ -1,4 +1,5 @@
--- The climb up the tree: each level's entries, spread by its codes, are what this level and all below it add to a chip. Assumes nothing.
+-- The climb up the tree: each level's entries, spread by its codes, are what this level and all below it add to a chip. The sums and differences are
+-- the tree's signs, which the code has in this form alone: the laws here hold them to `element` of `codes`. Assumes nothing.
 use mathlib.Core.Path.{_≡_, refl, sym, ap, _∙_}
 use mathlib.Core.Bool.{false}
 use mathlib.Core.List.{List}

@@ -12,15 +12,15 @@ use lib.ListN.{getD}
 use Rattle.complex.specs.declared.Complex.{Complex}
 use Rattle.complex.specs.Arithmetic.{_+j_, real, _⊗_}
 use Rattle.complex.specs.Buffers.{listed, value}
+use Rattle.complex.specs.Fits.{Within, Bound}
 use Rattle.complex.proofs.Integers.{ring, *ℤ-pos-one}
 use Rattle.complex.proofs.Lists.{listed-at}
 use Rattle.complex.proofs.Ring.{by-components}
 use Rattle.complex.proofs.Rotations.{rotate-0, rotate-1, rotate-2, rotate-3}
-use Rattle.codes.specs.Held.{signed-by-j}
-use Rattle.codes.specs.Scrambling.{v, scrambling}
-use Rattle.complex.specs.Fits.{Within, Bound}
 use Rattle.complex.proofs.Bounds.{bound-listed}
 use Rattle.complex.proofs.Sizes.{within-more, within-mul, within-neg}
+use Rattle.codes.specs.Held.{signed-by-j}
+use Rattle.codes.specs.Scrambling.{v, scrambling}
 use Rattle.codes.proofs.Rows.{v-within}
 use Rattle.modulation.specs.declared.Block.{Block}
 use Rattle.modulation.specs.Held.{block-of, turn-at, turned}

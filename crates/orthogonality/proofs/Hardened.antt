@@ -18,8 +18,8 @@ use Rattle.complex.proofs.Ring.{real-*ℤ, real-⊗}
 use Rattle.codes.specs.Range.{each}
 use Rattle.codes.proofs.Tests.{each-at, T-true}
 use Rattle.modulation.specs.Symbols.{symbol}
-use Rattle.harden.specs.Hardening.{pair-score, hard-pair}
 use Rattle.analyser_parts.proofs.Choosing.{peaks-is}
+use Rattle.harden.specs.Hardening.{pair-score, hard-pair}
 
 -- a symbol's own pair scores more than any other
 wins : ℕ → ℕ → Bool

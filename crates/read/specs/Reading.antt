@@ -11,9 +11,9 @@ use Rattle.complex.specs.Buffers.{value, Values, in-buffers}
 use Rattle.codes.specs.Tree.{is-spreading-factor, element}
 use Rattle.codes.specs.Scrambling.{scrambling}
 use Rattle.codes.specs.Refusals.{Answer, refused, gives, Refusal, _if_, _otherwise_}
+use Rattle.analyser_parts.specs.Components.{outside, either-shorter}
 use Rattle.read.specs.declared.ReadAnswer.{ReadAnswer}
 use Rattle.read.specs.declared.ReadAnswer.the-variants.{Read, Refused}
-use Rattle.analyser_parts.specs.Components.{outside, either-shorter}
 
 -- Reading n is the sum over the n-th Q chips of chip × conj(complex scrambling element) × code element.
 -- n counts from 0, and chip q of a field, from 0, has complex scrambling element 1 + (q mod 16).

@@ -1,4 +1,5 @@
--- The sums of each 16 chips with the signs of a and b, from two sums of eight. Assumes nothing.
+-- The sums of each 16 chips with the signs of a and b, from two sums of eight. The difference is b's last eight signs, which the code has in this form
+-- alone: `negated-test` holds it to the rows of `codes`. Assumes nothing.
 use mathlib.Core.Path.{_≡_, refl, sym, ap, ap₂, _∙_}
 use mathlib.Core.Bool.{Bool, _&&_}
 use mathlib.Core.List.{List}
@@ -17,9 +18,9 @@ use Rattle.complex.proofs.Sizes.{within-more, within-mul}
 use Rattle.complex.proofs.Sums.{Σℤ-cong}
 use Rattle.codes.specs.Held.{packed, sign-bit}
 use Rattle.codes.specs.Range.{each}
+use Rattle.codes.specs.SyncCodes.{a, b}
 use Rattle.codes.proofs.Rows.{sign-within}
 use Rattle.codes.proofs.Tests.{each-at, same, same→eq}
-use Rattle.codes.specs.SyncCodes.{a, b}
 use Rattle.analyser_parts.specs.Held.{signed-sum}
 use Rattle.read_sync.specs.Held.{half-sum}
 

@@ -1,4 +1,5 @@
--- A row of the allocation table: its eight candidates send the same codes, each with its own three signs. Assumes nothing.
+-- A row of the allocation table: its eight candidates send the same codes, each with its own three signs. Which candidate has which signs is the code
+-- itself (`place-in-row`): `rows-test` holds it to the allocation of `codes`. Assumes nothing.
 use mathlib.Core.Path.{_≡_, refl, sym, ap, _∙_, subst}
 use mathlib.Core.Bool.{Bool, true, _&&_, cond}
 use mathlib.Core.List.{[], _∷_}
@@ -13,16 +14,16 @@ use Rattle.complex.specs.Arithmetic.{real, 𝟎, 𝟏, 𝐣, _⊗_}
 use Rattle.complex.proofs.Integers.{ring}
 use Rattle.codes.specs.Signs.{minus-if}
 use Rattle.codes.specs.Range.{each}
-use Rattle.codes.proofs.Tests.{each-at, none-of, same, same→eq}
 use Rattle.codes.specs.declared.ModulatedCode.{ModulatedCode}
 use Rattle.codes.specs.declared.Allocated.{Allocated}
 use Rattle.codes.specs.Allocation.{allocation, case-1, case-2, code-set, is-frame-and-half, one-or-two, row, signed}
+use Rattle.codes.proofs.Tests.{each-at, none-of, same, same→eq}
+use Rattle.analyser_parts.proofs.Products.{times-conj}
 use Rattle.read_sync.specs.SyncReading.{candidate, candidates, sent}
 use Rattle.read_sync.specs.Held.{leader-of-row, leader-of-signs, Leads, Led, place-in-row, share-of, shares-of}
 use Rattle.read_sync.specs.declared.sync_reading.Leader.{Leader}
 use Rattle.read_sync.proofs.Leaders.{leads-cong, leads-placed}
 use Rattle.read_sync.proofs.SumLeaders.{leads-of-signs, leads-with, with-led}
-use Rattle.analyser_parts.proofs.Products.{times-conj}
 
 -- ---- the cases
 pub record Case (case : ℕ) : Type 0 where

@@ -13,10 +13,10 @@ use Rattle.complex.specs.Arithmetic.{real, 𝟎, 𝟏, 𝐣, _⊗_, conj}
 use Rattle.complex.proofs.Integers.{ring}
 use Rattle.complex.proofs.Ring.{by-components}
 use Rattle.codes.specs.Range.{each}
-use Rattle.codes.proofs.Tests.{each-at, same, same→eq}
 use Rattle.codes.specs.declared.ModulatedCode.{ModulatedCode}
 use Rattle.codes.specs.declared.burst.CodeSet.{CodeSet}
 use Rattle.codes.specs.Allocation.{allocation, case-1, case-2, code-set, is-frame-and-half, one-or-two, row, signed}
+use Rattle.codes.proofs.Tests.{each-at, same, same→eq}
 use Rattle.read_sync.specs.SyncReading.{candidate}
 use Rattle.read_sync.specs.Held.{leader-in-row, leader-of-row, leader-of-signs, leader-or-later, Leads, share-of, shares-of, SmallSet}
 use Rattle.read_sync.specs.declared.sync_reading.Leader.{Leader}

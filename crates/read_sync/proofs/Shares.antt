@@ -12,19 +12,19 @@ use Rattle.complex.specs.Fits.{Both, Bound}
 use Rattle.complex.proofs.Ring.{⊗-swap}
 use Rattle.complex.proofs.Components.{both-conj, both-⊗}
 use Rattle.complex.proofs.Lists.{value-in-buffers}
+use Rattle.complex.proofs.Bounds.{bound-listed}
 use Rattle.codes.specs.Held.{packed, secondary-row}
-use Rattle.codes.proofs.Tests.{T-true}
 use Rattle.codes.specs.declared.ModulatedCode.{ModulatedCode}
 use Rattle.codes.specs.SyncCodes.{b, is-sync-code}
+use Rattle.codes.proofs.Tests.{T-true}
 use Rattle.codes.proofs.Parts.{sync-code-below}
 use Rattle.codes.proofs.Allocations.{Known, allocation-known}
-use Rattle.read_sync.specs.SyncReading.{candidate, score, sent, share}
 use Rattle.analyser_parts.specs.Correlation.{P, S}
 use Rattle.analyser_parts.specs.Held.{correlated, part-sums}
-use Rattle.read_sync.specs.Held.{product, share-of, shares-of}
-use Rattle.complex.proofs.Bounds.{bound-listed}
 use Rattle.analyser_parts.proofs.Bounds.{signed-sum-within}
 use Rattle.analyser_parts.proofs.Correlations.{one-minus-j-within, primary-is, secondary-is}
+use Rattle.read_sync.specs.SyncReading.{candidate, score, sent, share}
+use Rattle.read_sync.specs.Held.{product, share-of, shares-of}
 
 -- ---- from the products that the code holds to the scores of the definition
 module _ (re im dre dim : List ℤ)

@@ -8,9 +8,9 @@ use native.Mathlib.Omega.{arith}
 use lib.Dec.{T, eqb}
 use lib.IntN.{ℤ, pos, negℤ, _+ℤ_, _*ℤ_}
 use lib.Signed.{leZ, ltZ}
+use Rattle.complex.specs.Fits.{Within}
 use Rattle.complex.proofs.Integers.{by-parts, +ℤ-parts, negℤ-pos-part, negℤ-neg-part, pos-one-*ℤ, negsuc-zero-*ℤ}
 use Rattle.complex.proofs.Order.{ltZ-true, ltZ-false, leZ-true, le-leZ, lt-ltZ}
-use Rattle.complex.specs.Fits.{Within}
 use Rattle.complex.proofs.Sizes.{within-add, within-more, within-mul}
 use Rattle.codes.specs.Signs.{minus-if}
 use Rattle.codes.proofs.Rows.{minus-if-within}

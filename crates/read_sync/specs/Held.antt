@@ -17,8 +17,8 @@ use Rattle.codes.specs.declared.burst.CodeSet.{CodeSet}
 use Rattle.codes.specs.declared.burst.Row.{Row}
 use Rattle.codes.specs.SyncCodes.{is-sync-code}
 use Rattle.codes.specs.Held.{secondary-row, sign-bit}
-use Rattle.read_sync.specs.declared.sync_reading.Leader.{Leader}
 use Rattle.analyser_parts.specs.Held.{correlated}
+use Rattle.read_sync.specs.declared.sync_reading.Leader.{Leader}
 
 -- the sum of eight entries from `from` on, with the signs of a row from `at` on
 unfoldable pub half-sum : List ℤ → ℕ → ℕ → ℕ → ℤ

@@ -14,10 +14,10 @@ use Rattle.codes.specs.declared.Allocated.{Allocated}
 use Rattle.codes.specs.Allocation.{allocation, one-or-two}
 use Rattle.analyser_parts.specs.Choice.{smallest, beats-others}
 use Rattle.analyser_parts.specs.Components.{outside}
+use Rattle.analyser_parts.specs.Correlation.{S, P}
 use Rattle.read_sync.specs.declared.Candidate.{Candidate}
 use Rattle.read_sync.specs.declared.SyncAnswer.{SyncAnswer}
 use Rattle.read_sync.specs.declared.SyncAnswer.the-variants.{Burst, Refused}
-use Rattle.analyser_parts.specs.Correlation.{S, P}
 
 -- a candidate: a group, a frame and a half
 abbrev pub of-group : ℕ → ℕ → ℕ → Candidate

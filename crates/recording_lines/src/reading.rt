@@ -29,22 +29,25 @@ pub fn read(
     yre: &mut Readings,
     yim: &mut Readings,
 ) -> Done {
-    let fault = outside(s.chips, x[3], x[4]);
+    let q = x[1];
+    let from = x[3];
+    let count = x[4];
+    let fault = outside(s.chips, from, count);
     match fault {
         Fault::None => {
             let a = read::read(
                 CellParameter(x[0]),
-                x[1],
+                q,
                 x[2],
-                stretch(re, x[3], x[4]),
-                stretch(im, x[3], x[4]),
+                stretch(re, from, count),
+                stretch(im, from, count),
                 yre,
                 yim,
             );
             match a {
                 ReadAnswer::Read => {
                     let mut next = s;
-                    next.readings = quotient(x[4], x[1]);
+                    next.readings = quotient(count, q);
                     answered(next, all(out, n, yre, yim, next.readings))
                 }
                 ReadAnswer::Refused(number) => {

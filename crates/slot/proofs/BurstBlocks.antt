@@ -14,16 +14,16 @@ use Rattle.complex.specs.Arithmetic.{𝟎}
 use Rattle.complex.specs.Fits.{Both}
 use Rattle.complex.proofs.Components.{both-more}
 use Rattle.codes.specs.Scrambling.{code-group}
-use Rattle.codes.proofs.Tests.{neither}
 use Rattle.codes.specs.Burst.{burst, burst-start}
+use Rattle.codes.proofs.Tests.{neither}
+use Rattle.modulation.specs.Held.{block-of}
+use Rattle.modulation.proofs.Blocks.{block-cong}
+use Rattle.modulation.proofs.BurstParts.{burst-both}
 use Rattle.slot.specs.declared.Sync.{Sync}
 use Rattle.slot.specs.Setup.{SyncSetup}
 use Rattle.slot.specs.Slot.{sync-chip}
 use Rattle.slot.specs.Tables.{view-sync}
 use Rattle.slot.specs.Held.{falls-on}
-use Rattle.modulation.specs.Held.{block-of}
-use Rattle.modulation.proofs.Blocks.{block-cong}
-use Rattle.modulation.proofs.BurstParts.{burst-both}
 use Rattle.slot.proofs.BurstPlace.{cell-start, sync-inside, sync-outside}
 
 -- ---- the settings as the struct holds them

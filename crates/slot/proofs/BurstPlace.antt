@@ -14,8 +14,8 @@ use Rattle.complex.specs.Arithmetic.{𝟎, _⊕_}
 use Rattle.complex.proofs.Ring.{⊕-𝟎}
 use Rattle.codes.specs.Range.{each}
 use Rattle.codes.specs.Scrambling.{code-group}
-use Rattle.codes.proofs.Tests.{each-at}
 use Rattle.codes.specs.Burst.{burst, burst-start}
+use Rattle.codes.proofs.Tests.{each-at}
 use Rattle.slot.specs.declared.parts.Parts.{Parts}
 use Rattle.slot.specs.Setup.{SyncSetup, Setup}
 use Rattle.slot.specs.Slot.{burst-type, data-chip, sync-chip, chip}

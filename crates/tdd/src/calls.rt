@@ -1,4 +1,6 @@
 // Each call of a line. The numbers are the rows of the forms in main.rt.
+use bench::Answered;
+use bench::Bench;
 use bench_lines::Left;
 use codes::CellParameter;
 use recording_lines::Chips;
@@ -70,7 +72,23 @@ fn after(s: State, left: Left) -> Done {
     }
 }
 
-// A call that changes settings or starts a slot.
+// A call that takes numbers alone; the last row of these is START.
+fn numbered(row: usize, x: [u32; 5], b: Bench) -> Answered {
+    let v0 = x[0];
+    let v1 = x[1];
+    let v2 = x[2];
+    match row {
+        SET_CELL => b.set_cell(CellParameter(v0), v1),
+        OPEN => b.open(v0, v1, v2),
+        CLOSE => b.close(v0, v1),
+        SET_GAIN => b.set_gain(v0, v1, v2),
+        SET_SYNC => b.set_sync(v0, v1, v2, x[3], x[4]),
+        CLEAR_SYNC => b.clear_sync(),
+        _ => b.start(),
+    }
+}
+
+// A call that changes settings or starts a slot. The answers are handed on once for all calls that take numbers alone.
 fn bench_call(
     row: usize,
     x: [u32; 5],
@@ -81,17 +99,13 @@ fn bench_call(
     n: usize,
 ) -> Done {
     let b = s.bench;
+    if START < row {
+        return recording_lines::no_call(s, n, Fault::Unknown(words::next(line, 0)));
+    }
     let left = match row {
-        SET_CELL => bench_lines::told(b.set_cell(CellParameter(x[0]), x[1]), out, n),
-        OPEN => bench_lines::told(b.open(x[0], x[1], x[2]), out, n),
         LOAD_PLAN => bench_lines::load_plan(b, line, rest, out, n),
-        CLOSE => bench_lines::told(b.close(x[0], x[1]), out, n),
-        SET_GAIN => bench_lines::told(b.set_gain(x[0], x[1], x[2]), out, n),
         LOAD_BITS => bench_lines::load_bits(b, x[0], x[1], line, rest, out, n),
-        SET_SYNC => bench_lines::told(b.set_sync(x[0], x[1], x[2], x[3], x[4]), out, n),
-        CLEAR_SYNC => bench_lines::told(b.clear_sync(), out, n),
-        START => bench_lines::told(b.start(), out, n),
-        _ => bench_lines::no_call(b, n, Fault::Unknown(words::next(line, 0))),
+        _ => bench_lines::told(numbered(row, x, b), out, n),
     };
     after(s, left)
 }

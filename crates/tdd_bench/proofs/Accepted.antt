@@ -6,15 +6,15 @@ use lib.IntN.{ℤ}
 use Rattle.codes.specs.declared.CellParameter.{CellParameter}
 use Rattle.codes.specs.Refusals.{Answer, refused, gives}
 use Rattle.codes.proofs.Refused.{numbered, 0-accepts, ZeroAccepts}
-use Rattle.read.specs.Reading.{read-call, read-refusals}
-use Rattle.harden.specs.Hardening.{harden-call, harden-refusals}
-use Rattle.read_sync.specs.SyncReading.{read-sync-call, sync-refusals}
-use Rattle.find.specs.Finding.{find-call, find-refusals}
 use Rattle.slot.specs.Tables.{view}
 use Rattle.bench.specs.declared.Bench.{Bench}
 use Rattle.bench.specs.declared.Channel.{Channel}
 use Rattle.bench.specs.BenchCalls.{AnswerAt, refused-at, loads, clear-sync-call, close-call, close-refusals, draw-call, draw-refusals, load-bits-call, load-bits-refusals, load-plan-call, open-call, open-refusals, opened-in-turn, plan-outcome, set-cell-call, set-cell-refusals, set-gain-call, set-gain-refusals, set-sync-call, set-sync-refusals, start-call, start-refusals, under-way}
 use Rattle.bench.specs.Changes.{all-closed, with-settings}
+use Rattle.read.specs.Reading.{read-call, read-refusals}
+use Rattle.harden.specs.Hardening.{harden-call, harden-refusals}
+use Rattle.read_sync.specs.SyncReading.{read-sync-call, sync-refusals}
+use Rattle.find.specs.Finding.{find-call, find-refusals}
 use Rattle.tdd_bench.specs.PlanResults.{plan-refusal-of}
 
 module _ (b : Bench) where

@@ -6,9 +6,9 @@ use lib.Dec.{leb}
 use Rattle.codes.specs.Calls.{code-group-call, element-call, related-call, scrambling-call, allocation-call, burst-start-call, primary-call, secondary-call}
 use Rattle.codes.specs.Refusals.{_if_}
 use Rattle.codes.specs.Tree.{is-spreading-factor}
-use Rattle.codes.proofs.Refused.{numbered, 0-accepts, ZeroAccepts}
 use Rattle.codes.specs.Allocation.{one-or-two, is-frame-and-half}
 use Rattle.codes.specs.SyncCodes.{is-sync-code}
+use Rattle.codes.proofs.Refused.{numbered, 0-accepts, ZeroAccepts}
 
 pub element-0 : (Q k chip : ℕ) → ZeroAccepts (element-call Q k chip)
 unfolding numbered

@@ -9,11 +9,11 @@ use lib.IntN.{ℤ}
 use lib.ListN.{length}
 use Rattle.codes.specs.Refusals.{Answer, refused, gives, Refusal}
 use Rattle.codes.proofs.Refused.{numbered, Passed, passed, accepted, not-accepted}
+use Rattle.codes.proofs.Tests.{neither}
 use Rattle.analyser_parts.specs.Components.{outside}
 use Rattle.analyser_parts.proofs.Ranges.{not-outside}
 use Rattle.find.specs.declared.Peak.{Peak}
 use Rattle.find.specs.Finding.{find-refusals, ScratchLeft}
-use Rattle.codes.proofs.Tests.{neither}
 use Rattle.find.proofs.find.Statement.{statement}
 use Rattle.find.proofs.find.Tie as tie
 

@@ -12,10 +12,10 @@ use Rattle.complex.specs.Buffers.{Values, written}
 use Rattle.codes.specs.Refusals.{Answer, Refusal, refused, outcome, after}
 use Rattle.codes.specs.Tree.{is-spreading-factor}
 use Rattle.codes.proofs.Refused.{numbered, passed, Passed, accepted, not-accepted}
-use Rattle.analyser_parts.specs.Components.{outside}
-use Rattle.read.specs.Reading.{longest-field, read-refusals}
 use Rattle.codes.proofs.Tests.{neither}
+use Rattle.analyser_parts.specs.Components.{outside}
 use Rattle.analyser_parts.proofs.Ranges.{not-outside}
+use Rattle.read.specs.Reading.{longest-field, read-refusals}
 use Rattle.read.proofs.read.Statement.{statement}
 use Rattle.read.proofs.read.Tie as tie
 

@@ -10,13 +10,13 @@ use lib.Dec.{eqb}
 use lib.ListN.{length, take}
 use Rattle.complex.specs.Buffers.{value}
 use Rattle.codes.specs.Refusals.{refused, gives, Refusal, _if_, number}
-use Rattle.codes.proofs.Refused.{numbered, Passed, passed, accepted, not-accepted, refused-early, passed-early}
 use Rattle.codes.specs.Allocation.{one-or-two}
+use Rattle.codes.proofs.Refused.{numbered, Passed, passed, accepted, not-accepted, refused-early, passed-early}
+use Rattle.codes.proofs.Tests.{neither}
 use Rattle.analyser_parts.specs.Components.{outside}
 use Rattle.analyser_parts.proofs.Ranges.{not-outside}
 use Rattle.read_sync.specs.SyncReading.{candidate, candidates, sync-refusals, winner}
 use Rattle.read_sync.proofs.Leading.{leads-is, leads-none}
-use Rattle.codes.proofs.Tests.{neither}
 use Rattle.read_sync.proofs.read_sync.Statement.{statement}
 use Rattle.read_sync.proofs.read_sync.Tie as tie
 

@@ -1,7 +1,7 @@
 -- `tdd_allocation` meets its contract: each way is the call's own answer. Assumes nothing.
 use mathlib.Core.Path.{sym, ap, _∙_}
-use Rattle.codes.specs.Allocation.{silent}
 use borrow.Author.Needs.{needs}
+use Rattle.codes.specs.Allocation.{silent}
 use Rattle.codes.specs.Calls.{told-allocation}
 use Rattle.codes.proofs.Refused.{held}
 use Rattle.tdd_codes.proofs.tdd_allocation.Statement.{statement}

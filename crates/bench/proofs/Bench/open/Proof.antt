@@ -10,11 +10,11 @@ use lib.ListN.{drop}
 use Rattle.codes.specs.Refusals.{Refusal}
 use Rattle.codes.proofs.Refused.{numbered, Passed}
 use Rattle.slot.specs.Tables.{view}
-use Rattle.bench.specs.BenchCalls.{open-refusals}
 use Rattle.tables.specs.Held.{with-open-cleared}
-use Rattle.bench.proofs.Accepted.{call-refused, call-accepted, passed-all, code-and-gain, good-code}
 use Rattle.tables.proofs.Blocks.{Code}
 use Rattle.tables.proofs.Cleared.{first-open}
+use Rattle.bench.specs.BenchCalls.{open-refusals}
+use Rattle.bench.proofs.Accepted.{call-refused, call-accepted, passed-all, code-and-gain, good-code}
 use Rattle.bench.proofs.Bench.open.Statement.{statement}
 use Rattle.bench.proofs.Bench.open.Tie as tie
 

@@ -5,8 +5,8 @@ use mathlib.Core.List.{[], _∷_}
 use borrow.Author.Needs.{needs}
 use borrow.Author.Tests.{not-true, not-false, le-leb, lt-leb}
 use lib.Dec.{leb}
-use Rattle.codes.proofs.Tests.{none-of}
 use Rattle.codes.specs.Allocation.{allocation, one-or-two, is-frame-and-half}
+use Rattle.codes.proofs.Tests.{none-of}
 use Rattle.codes.proofs.burst.allocated.Statement.{statement}
 use Rattle.codes.proofs.burst.allocated.Tie as tie
 

@@ -5,13 +5,13 @@ use Prim.Native.Nat.{ℕ, _%_, _<_}
 use native.Mathlib.Omega.{arith}
 use borrow.Author.Needs.{needs}
 use lib.Dec.{T, eqb, leb}
+use Rattle.complex.specs.Fits.{Both}
 use Rattle.codes.specs.Tree.{among}
 use Rattle.codes.specs.Range.{each}
-use Rattle.codes.proofs.Tests.{agree, agree→eq, each-at}
-use Rattle.complex.specs.Fits.{Both}
 use Rattle.codes.specs.declared.burst.Row.{Row}
-use Rattle.codes.proofs.Allocations.{unit-small}
 use Rattle.codes.specs.Allocation.{case-1}
+use Rattle.codes.proofs.Tests.{agree, agree→eq, each-at}
+use Rattle.codes.proofs.Allocations.{unit-small}
 use Rattle.codes.proofs.burst.case_1.Statement.{statement}
 use Rattle.codes.proofs.burst.case_1.Tie as tie
 

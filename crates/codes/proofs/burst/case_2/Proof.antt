@@ -3,11 +3,11 @@ use mathlib.Core.Path.{_≡_, refl, sym, subst}
 use mathlib.Core.Bool.{Bool, true, false, not, Bool·beq}
 use lib.IntN.{_*ℤ_}
 use borrow.Author.Needs.{needs}
-use Rattle.codes.specs.Signs.{minus-if}
 use Rattle.complex.specs.Fits.{Both}
+use Rattle.codes.specs.Signs.{minus-if}
 use Rattle.codes.specs.declared.burst.Row.{Row}
-use Rattle.codes.proofs.Allocations.{unit-small}
 use Rattle.codes.specs.Allocation.{case-2}
+use Rattle.codes.proofs.Allocations.{unit-small}
 use Rattle.codes.proofs.burst.case_2.Statement.{statement}
 use Rattle.codes.proofs.burst.case_2.Tie as tie
 

@@ -1,8 +1,8 @@
 -- `one_or_two` meets its contract: each number's arm computes, and the last arm is none of the numbers. Assumes nothing.
 use mathlib.Core.Path.{sym, ap}
 use mathlib.Core.List.{[], _∷_}
-use Rattle.codes.proofs.Tests.{none-of}
 use Rattle.codes.specs.Allocation.{one-or-two}
+use Rattle.codes.proofs.Tests.{none-of}
 use Rattle.codes.proofs.burst.one_or_two.Statement.{statement}
 use Rattle.codes.proofs.burst.one_or_two.Tie as tie
 

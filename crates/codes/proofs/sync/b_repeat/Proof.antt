@@ -4,8 +4,8 @@ use borrow.Author.Needs.{needs}
 use mir.Syntax.{w32}
 use mir.Val.{SFits}
 use mir.Facts.{toZ-ofZ}
-use Rattle.codes.proofs.Rows.{read-back, b-signs-test}
 use Rattle.codes.specs.SyncCodes.{b-signs}
+use Rattle.codes.proofs.Rows.{read-back, b-signs-test}
 use Rattle.codes.proofs.sync.b_repeat.Statement.{statement}
 use Rattle.codes.proofs.sync.b_repeat.Tie as tie
 

@@ -1,7 +1,7 @@
 -- `is_sync_code` meets its contract: each number's arm computes, and the last arm is none of the numbers. Assumes nothing.
 use mathlib.Core.Path.{sym, ap}
-use Rattle.codes.proofs.Tests.{none-of}
 use Rattle.codes.specs.SyncCodes.{sync-codes, is-sync-code}
+use Rattle.codes.proofs.Tests.{none-of}
 use Rattle.codes.proofs.sync.is_sync_code.Statement.{statement}
 use Rattle.codes.proofs.sync.is_sync_code.Tie as tie
 

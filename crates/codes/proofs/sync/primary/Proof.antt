@@ -8,8 +8,8 @@ use Rattle.complex.specs.Arithmetic.{_+j_, real, _⊗_}
 use Rattle.complex.specs.Fits.{Within}
 use Rattle.complex.proofs.Machine.{mul-asks, mul-gives}
 use Rattle.complex.proofs.Sizes.{within-mul, fits-within}
-use Rattle.codes.proofs.Rows.{row-within, a-test, a-signs-test}
 use Rattle.codes.specs.SyncCodes.{a, a-signs, repeated, Cp}
+use Rattle.codes.proofs.Rows.{row-within, a-test, a-signs-test}
 use Rattle.codes.proofs.sync.primary.Statement.{statement}
 use Rattle.codes.proofs.sync.primary.Tie as tie
 

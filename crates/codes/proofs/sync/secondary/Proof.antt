@@ -14,8 +14,8 @@ use Rattle.complex.specs.Arithmetic.{_+j_, real, 𝟎, _⊗_}
 use Rattle.complex.specs.Fits.{Within}
 use Rattle.complex.proofs.Machine.{mul-asks, mul-gives}
 use Rattle.complex.proofs.Sizes.{within-mul, fits-within}
-use Rattle.codes.proofs.Rows.{row-within, b-test, b-signs-test}
 use Rattle.codes.specs.SyncCodes.{b, b-signs, is-sync-code, C}
+use Rattle.codes.proofs.Rows.{row-within, b-test, b-signs-test}
 use Rattle.codes.proofs.Parts.{hadamard-part-within, C-parts}
 use Rattle.codes.proofs.sync.secondary.Statement.{statement}
 use Rattle.codes.proofs.sync.secondary.Tie as tie

@@ -9,9 +9,9 @@ use mir.Syntax.{w32, w64}
 use mir.Val.{SFits}
 use mir.Facts.{toZ-ofZ}
 use Rattle.complex.proofs.Sizes.{fits-within}
+use Rattle.analyser_parts.proofs.Products.{held}
 use Rattle.find.specs.Held.{PeaksBelow, sizes, size-of}
 use Rattle.find.proofs.Blocks.{one-passed}
-use Rattle.analyser_parts.proofs.Products.{held}
 use Rattle.find.proofs.finding.look.Statement.{statement}
 use Rattle.find.proofs.finding.look.Tie as tie
 

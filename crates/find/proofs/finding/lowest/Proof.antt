@@ -7,9 +7,9 @@ use mir.Syntax.{w32}
 use mir.Val.{SFits, toZ}
 use mir.Facts.{toZ-ofZ}
 use Rattle.complex.proofs.Sizes.{fits-within}
+use Rattle.analyser_parts.proofs.Products.{held}
 use Rattle.find.specs.Held.{Covers, lower-of}
 use Rattle.find.proofs.Blocks.{covers-none, covers-more}
-use Rattle.analyser_parts.proofs.Products.{held}
 use Rattle.find.proofs.finding.lowest.Statement.{statement}
 use Rattle.find.proofs.finding.lowest.Tie as tie
 

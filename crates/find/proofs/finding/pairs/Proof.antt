@@ -13,9 +13,9 @@ use Rattle.complex.specs.Buffers.{listed, written}
 use Rattle.complex.specs.Fits.{Within}
 use Rattle.complex.proofs.Lists.{one-more-written}
 use Rattle.complex.proofs.Sizes.{within-more}
+use Rattle.analyser_parts.proofs.Products.{held}
 use Rattle.find.specs.Held.{entries, four-of}
 use Rattle.find.proofs.Golay.{kept, read-is, read-within, taken-within}
-use Rattle.analyser_parts.proofs.Products.{held}
 use Rattle.find.proofs.finding.pairs.Statement.{statement}
 use Rattle.find.proofs.finding.pairs.Tie as tie
 

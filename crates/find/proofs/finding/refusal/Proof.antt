@@ -7,9 +7,9 @@ use borrow.Author.Tests.{eq-eqb, ne-eqb, ltb-false}
 use lib.Dec.{ltb}
 use lib.ListN.{length}
 use Rattle.codes.specs.Refusals.{number}
+use Rattle.codes.proofs.Tests.{neither}
 use Rattle.analyser_parts.specs.Components.{outside}
 use Rattle.find.specs.Finding.{shortest-recording, longest-recording, find-refusals}
-use Rattle.codes.proofs.Tests.{neither}
 use Rattle.find.proofs.finding.refusal.Statement.{statement}
 use Rattle.find.proofs.finding.refusal.Tie as tie
 

@@ -10,9 +10,9 @@ use mir.Syntax.{w32, w64}
 use mir.Val.{SFits, toZ, ofZ}
 use mir.Facts.{toZ-ofZ}
 use Rattle.complex.proofs.Sizes.{fits-within}
+use Rattle.analyser_parts.proofs.Products.{held}
 use Rattle.find.specs.Held.{entries, PeaksBelow, sizes, size-of}
 use Rattle.find.proofs.Blocks.{all-passed, none-passed}
-use Rattle.analyser_parts.proofs.Products.{held}
 use Rattle.find.proofs.finding.strongest.Statement.{statement}
 use Rattle.find.proofs.finding.strongest.Tie as tie
 

@@ -11,9 +11,9 @@ use mir.Facts.{toZ-ofZ}
 use Rattle.complex.specs.Buffers.{listed, written}
 use Rattle.complex.specs.Fits.{Within}
 use Rattle.complex.proofs.Lists.{one-more-written}
+use Rattle.analyser_parts.proofs.Products.{held}
 use Rattle.find.specs.Held.{entries}
 use Rattle.find.proofs.Golay.{kept, read-is, read-within, taken-within, whole-of}
-use Rattle.analyser_parts.proofs.Products.{held}
 use Rattle.find.proofs.finding.whole.Statement.{statement}
 use Rattle.find.proofs.finding.whole.Tie as tie
 

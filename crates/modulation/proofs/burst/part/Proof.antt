@@ -9,15 +9,15 @@ use mir.Val.{toZ}
 use Rattle.complex.specs.declared.Complex.{Complex}
 use Rattle.complex.specs.Arithmetic.{_+j_, real, _⊗_}
 use Rattle.complex.specs.Fits.{Both}
+use Rattle.complex.proofs.Stored.{Is, held, number, stored, fits, within, times}
 use Rattle.codes.specs.Signs.{_at_}
-use Rattle.codes.proofs.Rows.{row-within, a-signs-test}
 use Rattle.codes.specs.declared.Allocated.{Allocated}
 use Rattle.codes.specs.SyncCodes.{a-signs}
 use Rattle.codes.specs.Allocation.{allocation}
 use Rattle.codes.specs.Burst.{burst}
+use Rattle.codes.proofs.Rows.{row-within, a-signs-test}
 use Rattle.codes.proofs.Allocations.{AllKnown, allocation-known}
 use Rattle.modulation.specs.Held.{modulated-parts, part-chip}
-use Rattle.complex.proofs.Stored.{Is, held, number, stored, fits, within, times}
 use Rattle.modulation.proofs.BurstParts.{small-units, gained-both, burst-parts, modulated-parts-both}
 use Rattle.modulation.proofs.Blocks.{Filled, filled-none, filled-more, filled-all, block-cong}
 use Rattle.modulation.proofs.burst.part.Statement.{statement}

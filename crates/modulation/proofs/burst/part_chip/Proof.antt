@@ -4,10 +4,10 @@ use borrow.Author.Needs.{needs}
 use lib.IntN.{ℤ, _+ℤ_, _*ℤ_}
 use Rattle.complex.specs.Fits.{Within}
 use Rattle.complex.proofs.Ring.{by-components}
-use Rattle.codes.specs.Signs.{_at_}
-use Rattle.codes.proofs.Rows.{row-within, a-test, b-test}
-use Rattle.codes.specs.SyncCodes.{a, b}
 use Rattle.complex.proofs.Stored.{Is, held, given, stored, fits, plus, times}
+use Rattle.codes.specs.Signs.{_at_}
+use Rattle.codes.specs.SyncCodes.{a, b}
+use Rattle.codes.proofs.Rows.{row-within, a-test, b-test}
 use Rattle.modulation.proofs.BurstParts.{part-chip-is}
 use Rattle.modulation.proofs.burst.part_chip.Statement.{statement}
 use Rattle.modulation.proofs.burst.part_chip.Tie as tie

@@ -12,11 +12,11 @@ use Rattle.complex.specs.Fits.{Bound}
 use Rattle.complex.specs.declared.Complex.{Complex}
 use Rattle.complex.specs.Buffers.{listed, value, written}
 use Rattle.complex.proofs.Lists.{one-more-written}
+use Rattle.complex.proofs.Bounds.{bound-listed}
+use Rattle.codes.proofs.Factors.{factor-range}
 use Rattle.read.specs.Held.{weighed}
 use Rattle.read.specs.Reading.{reading}
-use Rattle.codes.proofs.Factors.{factor-range}
 use Rattle.read.proofs.Readings.{weight-both, reading-is}
-use Rattle.complex.proofs.Bounds.{bound-listed}
 use Rattle.read.proofs.reading.by_products.Statement.{statement}
 use Rattle.read.proofs.reading.by_products.Tie as tie
 

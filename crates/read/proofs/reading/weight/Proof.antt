@@ -9,8 +9,8 @@ use Rattle.complex.specs.Fits.{Within, Both}
 use Rattle.complex.proofs.Components.{both-conj, both-fits, product-fits, real-both}
 use Rattle.codes.specs.Tree.{element}
 use Rattle.codes.proofs.Leaves.{element-within}
-use Rattle.read.specs.Held.{weight}
 use Rattle.codes.proofs.Rows.{scrambling-both}
+use Rattle.read.specs.Held.{weight}
 use Rattle.read.proofs.reading.weight.Statement.{statement}
 use Rattle.read.proofs.reading.weight.Tie as tie
 
