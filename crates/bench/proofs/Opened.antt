@@ -15,8 +15,8 @@ use Rattle.slot.specs.Setup.{is-open, is-some}
 use Rattle.slot.specs.Slot.{bit-count}
 use Rattle.slot.specs.Tables.{held-bit, held-channel, view, view-channel}
 use Rattle.tables.specs.Held.{open-at}
+use Rattle.tables.specs.Held.{clashes}
 use Rattle.bench.specs.BenchCalls.{related-to-open, some-code}
-use Rattle.bench.specs.Held.{clashes}
 
 -- a channel is held where the gain is not 0
 held : (g : ℕ) (bits : List ℕ) → is-some (held-channel g bits) ≡ not (eqb g 0)

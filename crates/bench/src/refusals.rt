@@ -2,21 +2,22 @@
 // that hold them, which are 37 times as large: the number is that of any settings with these gains and, for load bits, this type.
 ghost use mathlib.Core.Bool.{not};
 ghost use mathlib.Core.Path.{_≡_};
-ghost use Prim.Native.Nat.{_<_, _≤_};
+ghost use Prim.Native.Nat.{_<_};
 ghost use lib.Dec.{eqb};
-ghost use Rattle.codes.specs.Range.{any};
 ghost use Rattle.codes.specs.Refusals.{number};
 ghost use Rattle.slot.specs.declared.Settings.{Settings};
 ghost use Rattle.slot.specs.Slot.{bit-count};
 ghost use Rattle.slot.specs.Tables.{view};
+ghost use Rattle.tables.specs.Held.{clashes};
 ghost use Rattle.bench.specs.BenchCalls.{bad-gain, close-refusals, draw-refusals, load-bits-refusals, open-refusals, set-cell-refusals, set-gain-refusals, set-sync-refusals, some-code};
-ghost use Rattle.bench.specs.Held.{clashes, code-refusals};
+ghost use Rattle.bench.specs.Held.{code-refusals};
 use codes::CellParameter;
 use codes::burst;
 use codes::tree;
 use slot::Settings;
 use slot::parts;
 use tables::bits::has_byte_above_1;
+use tables::gains::any_clash;
 use tables::gains::any_of_five;
 use tables::gains::is_open;
 
@@ -52,26 +53,6 @@ fn is_bad_gain(gain: u32) -> bool
     ensures { λ r. ⌜ r ≡ bad-gain gain ⌝ }
 {
     gain < 1 || 4095 < gain
-}
-
-// Whether code (q2, k2) is open and related to (q, k).
-fn clashes(gains: &[u16; 31], q: u32, k: u32, q2: u32, k2: u32) -> bool
-    requires { ⌜ (k2 < q2) × (q2 ≤ 16) ⌝ }
-    ensures { λ r. ⌜ r ≡ clashes (now (gains .entry)) q k q2 k2 ⌝ }
-{
-    is_open(gains, q2, k2) && tree::is_related(q2, k2, q, k)
-}
-
-// Whether an open code of factor q2 is related to (q, k).
-fn any_clash(gains: &[u16; 31], q: u32, k: u32, q2: u32) -> bool
-    requires { ⌜ q2 ≤ 16 ⌝ }
-    ensures { λ r. ⌜ r ≡ any q2 (clashes (now (gains .entry)) q k q2) ⌝ }
-{
-    let mut found = false;
-    for k2 in 0..q2 {
-        found = clashes(gains, q, k, q2, k2) || found;
-    }
-    found
 }
 
 // Whether an open code is related to (q, k).

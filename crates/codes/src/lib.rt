@@ -1,7 +1,7 @@
 // The code rules of TS 25.223 V3.3.0 as a unit of their own: channelisation codes, scrambling codes, sync codes, which of
 // them a code group sends, and where its burst starts. The eight calls take any numbers and refuse by document 01's number.
 // The modules hold the functions that the crates above call for each chip or block: they are total, and give 0 outside
-// their range (`group_of`: p div 4).
+// their range (`group_of`: p div 4); `signed_by_j` alone asks something, for a number of at most 1 in size.
 ghost use mathlib.Core.Path.{_≡_};
 ghost use Rattle.codes.specs.Calls.{element-call, related-call, code-group-call, scrambling-call, told-element, told-related, told-group, told-chip, primary-call, secondary-call, allocation-call, burst-start-call, told-allocation, told-start};
 use complex::Complex;

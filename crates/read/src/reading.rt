@@ -109,11 +109,9 @@ fn reading(
 {
     let mut sum = Complex { re: 0, im: 0 };
     for i in 0..q {
-        let w = Complex {
-            re: wre[(from + i) % 16],
-            im: wim[(from + i) % 16],
-        };
-        sum = sum.plus(complex::value_at(re, im, from + i).times(w));
+        let at = from + i;
+        let w = complex::value_at(wre, wim, at % 16);
+        sum = sum.plus(complex::value_at(re, im, at).times(w));
     }
     sum
 }

@@ -6,11 +6,16 @@ use lib.Dec.{eqb, leb, ltb}
 use lib.ListN.{getD}
 use Rattle.complex.specs.Buffers.{listed}
 use Rattle.codes.specs.Range.{any}
+use Rattle.codes.specs.Tree.{related}
 use Rattle.modulation.specs.Nodes.{node}
 
 -- code (Q, k) is open in the gains
 abbrev pub open-at : List ℕ → ℕ → ℕ → Bool
 open-at gains Q k = not (eqb (getD gains (node Q k) 0) 0)
+
+-- code (Q′, k′) is open and related to (Q, k)
+abbrev pub clashes : List ℕ → ℕ → ℕ → ℕ → ℕ → Bool
+clashes gains Q k Q′ k′ = open-at gains Q′ k′ && related Q′ k′ Q k
 
 -- the pairs, the w entries from `at` on replaced by f 0, f 1, ..
 unfoldable pub with-part : List ℕ → ℕ → ℕ → (ℕ → ℕ) → List ℕ

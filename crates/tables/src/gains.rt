@@ -3,8 +3,10 @@ ghost use mathlib.Core.Path.{_≡_};
 ghost use mathlib.Core.Bool.{_||_};
 ghost use Prim.Native.Nat.{_+_, _<_, _≤_};
 ghost use lib.ListN.{set};
+ghost use Rattle.codes.specs.Range.{any};
 ghost use Rattle.modulation.specs.Nodes.{node as node-of};
-ghost use Rattle.tables.specs.Held.{open-at};
+ghost use Rattle.tables.specs.Held.{clashes, open-at};
+use codes::tree;
 
 // Where the gain of code (q, k) stands.
 pub fn node(q: u32, k: u32) -> usize
@@ -36,4 +38,24 @@ pub fn any_of_five(a: bool, b: bool, c: bool, d: bool, e: bool) -> bool
     ensures { λ r. ⌜ r ≡ (a || b || c || d || e) ⌝ }
 {
     a || b || c || d || e
+}
+
+// Whether code (q2, k2) is open and related to (q, k).
+fn clashes(gains: &[u16; 31], q: u32, k: u32, q2: u32, k2: u32) -> bool
+    requires { ⌜ (k2 < q2) × (q2 ≤ 16) ⌝ }
+    ensures { λ r. ⌜ r ≡ clashes (now (gains .entry)) q k q2 k2 ⌝ }
+{
+    is_open(gains, q2, k2) && tree::is_related(q2, k2, q, k)
+}
+
+// Whether an open code of factor q2 is related to (q, k).
+pub fn any_clash(gains: &[u16; 31], q: u32, k: u32, q2: u32) -> bool
+    requires { ⌜ q2 ≤ 16 ⌝ }
+    ensures { λ r. ⌜ r ≡ any q2 (clashes (now (gains .entry)) q k q2) ⌝ }
+{
+    let mut found = false;
+    for k2 in 0..q2 {
+        found = clashes(gains, q, k, q2, k2) || found;
+    }
+    found
 }

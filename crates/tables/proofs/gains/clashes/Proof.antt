@@ -1,8 +1,8 @@
 -- `clashes` meets its contract. Assumes nothing.
 use mathlib.Core.Path.{sym, _∙_}
 use borrow.Author.Needs.{needs}
-use Rattle.bench.proofs.refusals.clashes.Statement.{statement}
-use Rattle.bench.proofs.refusals.clashes.Tie as tie
+use Rattle.tables.proofs.gains.clashes.Statement.{statement}
+use Rattle.tables.proofs.gains.clashes.Tie as tie
 
 is-open-requires : tie.Need-is-open-requires
 is-open-requires c κs = search needs

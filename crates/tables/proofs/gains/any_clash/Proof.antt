@@ -6,9 +6,9 @@ use Prim.Native.Nat.{_≤_, _-_}
 use native.Mathlib.Numerals.{add-one}
 use native.Mathlib.Omega.{arith}
 use Rattle.codes.specs.Range.{any}
-use Rattle.bench.specs.Held.{clashes}
-use Rattle.bench.proofs.refusals.any_clash.Statement.{statement}
-use Rattle.bench.proofs.refusals.any_clash.Tie as tie
+use Rattle.tables.specs.Held.{clashes}
+use Rattle.tables.proofs.gains.any_clash.Statement.{statement}
+use Rattle.tables.proofs.gains.any_clash.Tie as tie
 
 abbrev Inv-loop : tie.InvT-loop
 Inv-loop gains q k q2 found₀ k2₀ found k2 = (k2 ≤ q2) × (found ≡ any k2 (clashes gains q k q2))
