@@ -1,4 +1,4 @@
-// The eight calls of codes and sync_codes, and how their answers are printed.
+// The eight calls of codes, and how their answers are printed.
 use crate::print;
 use codes::CellParameter;
 use codes::CodeGroup;

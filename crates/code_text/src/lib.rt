@@ -1,3 +1,3 @@
-// The calls of codes and sync_codes, their names and their answers, as text on standard output.
+// The calls of codes, their names and their answers, as text on standard output.
 pub mod calls;
 pub mod print;

@@ -1,4 +1,4 @@
-// Prints every value of the crates codes and sync_codes, then their answers at and past the limits of their calls: a line has a call, its
+// Prints every value of the crate codes, then its answers at and past the limits of its calls: a line has a call, its
 // arguments and what it answers. The file stdout has the same lines, made by a script from the standard's text and document 01.
 mod edges;
 mod values;

@@ -1,4 +1,4 @@
-// The code rules for C and Rust hosts, as include/tdd_codes.h declares them: each function is the call of `codes` or `sync_codes` that its name ends with.
+// The code rules for C and Rust hosts, as include/tdd_codes.h declares them: each function is the call of `codes` that its name ends with.
 // `refusal` is document 01's number, or 0 where the call is accepted; the other fields are 0 where it is refused.
 ghost use mathlib.Core.Path.{_≡_};
 ghost use mathlib.Core.Bool.{cond};
