@@ -1,12 +1,10 @@
 // Products of which the correlations with sync codes are made.
 ghost use mathlib.Core.Path.{_≡_};
-ghost use Prim.Native.Nat.{_+_, _*_};
 ghost use lib.IntN.{pos, _+ℤ_, _*ℤ_};
 ghost use mir.Syntax.{w64};
 ghost use mir.Val.{SFits};
 ghost use Rattle.complex.specs.Arithmetic.{_+j_, _⊗_, conj};
 ghost use Rattle.complex.specs.Fits.{Both};
-use codes::signs::sign_at;
 use complex::Complex;
 
 // a b + c d.

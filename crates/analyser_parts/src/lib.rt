@@ -1,5 +1,5 @@
-// What the analyser's calls share; each call is a crate of its own (read, harden, read_sync, find). These functions take
-// what their callers have tested.
+// What the analyser's calls share; each call is a crate of its own (read, harden, read_sync, find). The products of
+// `correlation` ask for sizes that fit; all else is total.
 pub mod components;
 pub mod correlation;
 pub mod largest;

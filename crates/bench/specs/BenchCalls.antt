@@ -108,7 +108,8 @@ set-gain-refusals s Q k g = 3 if not (is-spreading-factor Q) ∷ 4 if leb Q k �
 abbrev pub set-gain-call : Bench → ℕ → ℕ → ℕ → Answer Bench
 set-gain-call b Q k g = set-gain-refusals (view (b .settings)) Q k g otherwise with-settings b (with-gain (b .settings) Q k g)
 
--- Load bits (Q, k, one byte a bit). Refuses 3; 4; 7; 8 count not as above; 9 a byte above 1.
+-- Load bits (Q, k, one byte a bit). Refuses 3; 4; 7; 8 count not as above; 9 a byte above 1
+-- (`has-byte-above-1`, in `tables`, whose code tests it).
 abbrev pub load-bits-refusals : Setup → ℕ → ℕ → List ℕ → List Refusal
 load-bits-refusals s Q k bits =
     3 if not (is-spreading-factor Q) ∷

@@ -21,7 +21,7 @@ pub struct Left {
     pub fault: Fault,
 }
 
-pub fn no_call(b: Bench, n: usize, fault: Fault) -> Left {
+fn no_call(b: Bench, n: usize, fault: Fault) -> Left {
     Left { bench: b, n, fault }
 }
 

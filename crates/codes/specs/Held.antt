@@ -1,5 +1,5 @@
--- How the code holds rows of signs, and what the last arm of its `match`es knows. Nothing here is document 01's: the contracts of the
--- public calls do not name it.
+-- How the code holds signs, in rows and by powers of j, and what the last arm of its `match`es knows. Nothing here is document 01's: the
+-- contracts of the public calls do not name it.
 use mathlib.Core.Path.{_≡_}
 use lib.IntN.{ℤ, pos, negsuc, negℤ, _*ℤ_}
 use Prim.Native.Nat.{ℕ, zero, suc, _+_, _*_, _-_, _/_, _%_, _^_}

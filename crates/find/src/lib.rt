@@ -1,5 +1,5 @@
-// The analyser's call find: where the primary sync code is strongest in a recording. It takes any numbers and any buffers, refuses by document 01's
-// number and leaves every buffer as it was where it refuses.
+// The analyser's call find: where the primary sync code is strongest in a recording. It takes any buffers,
+// refuses by document 01's number and leaves every buffer as it was where it refuses.
 ghost use mathlib.Core.Path.{_≡_};
 ghost use lib.ListN.{length};
 ghost use Rattle.find.specs.Finding.{find-call, told-find, ScratchLeft};

@@ -1,5 +1,5 @@
-// The analyser's call harden: hard bits of readings. It takes any numbers and any buffers, refuses by document 01's
-// number and leaves every buffer as it was where it refuses.
+// The analyser's call harden: hard bits of readings. It takes any buffers,
+// refuses by document 01's number and leaves every buffer as it was where it refuses.
 ghost use mathlib.Core.Path.{_≡_};
 ghost use lib.ListN.{length};
 ghost use Rattle.complex.specs.Buffers.{written};

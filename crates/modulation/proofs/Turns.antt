@@ -1,4 +1,5 @@
--- The scrambling code's elements are imaginary at even places and real at odd ones: a product with one by two single products. Assumes nothing.
+-- The scrambling code's elements are imaginary at even places and real at odd ones: a product with one by two single products. At which places, and
+-- whose sign the imaginary part has, is the code itself: the laws here hold it to the scrambling elements of `codes`. Assumes nothing.
 use mathlib.Core.Path.{_≡_, ap, ap₂, _∙_}
 use mathlib.Core.Bool.{Bool, true, false, cond}
 use mathlib.Core.List.{List}

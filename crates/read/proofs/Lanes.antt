@@ -1,4 +1,5 @@
--- Readings at Q 16: the weights are signs, times j at even places, and the sum over sixteen chips is one over four lanes. Assumes nothing.
+-- Readings at Q 16: the weights are signs, times j at even places, and the sum over sixteen chips is one over four lanes. At which places j stands is
+-- the code itself: the laws here hold it to the scrambling elements of `codes`. Assumes nothing.
 use mathlib.Core.Path.{_≡_, refl, sym, ap, ap₂, _∙_, subst}
 use mathlib.Core.Bool.{Bool, true, false, cond}
 use mathlib.Core.List.{List}

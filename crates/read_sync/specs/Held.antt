@@ -65,7 +65,7 @@ leader-in-row case d w =
     let share : ℕ → ℤ = λ i. (d i ⊗ conj (w .unit)) .re in
     leader-of-row case (leader-of-signs (share (w .first))) (leader-of-signs (share (w .second))) (leader-of-signs (d (w .marker) .re))
 
--- the products of a code set's numbers are there
+-- a code set's three numbers are below 16, so each has its product
 pub record SmallSet (s : CodeSet) : Type 0 where
   pub a : s .a < 16
   pub b : s .b < 16

@@ -1,5 +1,5 @@
-// The analyser's call read sync: what a sync burst was sent for. It takes any numbers and any buffers, refuses by document 01's
-// number and leaves every buffer as it was where it refuses.
+// The analyser's call read sync: what a sync burst was sent for. It takes any case and any buffers, writes to
+// none, and refuses by document 01's number.
 ghost use mathlib.Core.Path.{_≡_};
 ghost use Rattle.read_sync.specs.SyncReading.{read-sync-call, told-sync};
 use codes::CodeGroup;

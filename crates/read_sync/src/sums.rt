@@ -9,7 +9,6 @@ ghost use Rattle.complex.specs.Fits.{Within, Bound};
 ghost use Rattle.analyser_parts.specs.Held.{signed-sum};
 ghost use Rattle.read_sync.specs.Held.{half-sum};
 use codes::signs::sign_at;
-use complex::Complex;
 
 // s + sign x.
 fn plus_signed(s: i32, sign: i32, x: i32) -> i32

@@ -254,12 +254,12 @@ fn row_leader(case: u32, first: Leader, second: Leader, marker: Leader) -> Leade
     }
 }
 
-// The same from the products, for row q of a code set: a share is the imaginary part of its product where the row's unit is j, else the real one.
-fn leader_in_row(re: &[i64; 16], im: &[i64; 16], case: u32, set: CodeSet, q: u32) -> Leader
-    requires { ⌜ (q < 4) × SmallSet set × Bound 5300000000000000 (now re) × Bound 5300000000000000 (now im) ⌝ }
-    ensures { λ r. ⌜ r ≡ leader-in-row case (value (now (re .entry)) (now (im .entry))) (row q set) ⌝ }
+// The same from the products, for row n of a code set: a share is the imaginary part of its product where the row's unit is j, else the real one.
+fn leader_in_row(re: &[i64; 16], im: &[i64; 16], case: u32, set: CodeSet, n: u32) -> Leader
+    requires { ⌜ (n < 4) × SmallSet set × Bound 5300000000000000 (now re) × Bound 5300000000000000 (now im) ⌝ }
+    ensures { λ r. ⌜ r ≡ leader-in-row case (value (now (re .entry)) (now (im .entry))) (row n set) ⌝ }
 {
-    let r = burst::row_of(q, set);
+    let r = burst::row_of(n, set);
     let marker = sign_leader(re, r.marker);
     if r.unit.re == 0 {
         return row_leader(

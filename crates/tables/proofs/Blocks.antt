@@ -13,7 +13,7 @@ use Rattle.codes.proofs.Leaves.{no-width, leaves-within}
 use Rattle.codes.proofs.Tests.{none-at}
 use Rattle.tables.specs.Bits.{has-byte-above-1}
 
--- what the callees ask of a code, and the tables of `view`
+-- what the tables ask of a code
 pub record Code (Q k : ℕ) : Type 0 where
   pub factor : is-spreading-factor Q ≡ true
   pub below : k < Q

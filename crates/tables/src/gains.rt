@@ -1,7 +1,7 @@
 // The table of gains: one entry a code, 0 where it is not open.
 ghost use mathlib.Core.Path.{_≡_};
 ghost use mathlib.Core.Bool.{_||_};
-ghost use Prim.Native.Nat.{_+_, _<_, _≤_};
+ghost use Prim.Native.Nat.{_<_, _≤_};
 ghost use lib.ListN.{set};
 ghost use Rattle.codes.specs.Range.{any};
 ghost use Rattle.modulation.specs.Nodes.{node as node-of};
@@ -9,7 +9,7 @@ ghost use Rattle.tables.specs.Held.{clashes, open-at};
 use codes::tree;
 
 // Where the gain of code (q, k) stands.
-pub fn node(q: u32, k: u32) -> usize
+fn node(q: u32, k: u32) -> usize
     requires { ⌜ (k < q) × (q ≤ 16) ⌝ }
     ensures { λ r. ⌜ (r ≡ node-of q k) × (r < 31) ⌝ }
 {

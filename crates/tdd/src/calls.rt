@@ -72,17 +72,18 @@ fn after(s: State, left: Left) -> Done {
     }
 }
 
-// A call that takes numbers alone; the last row of these is START.
+// A call that takes numbers alone. START is the row that is left: load plan and load bits do not come here, nor does row 0, which `answer`
+// tells as unknown, or a row past START.
 fn numbered(row: usize, x: [u32; 5], b: Bench) -> Answered {
-    let v0 = x[0];
-    let v1 = x[1];
-    let v2 = x[2];
+    let first = x[0];
+    let second = x[1];
+    let third = x[2];
     match row {
-        SET_CELL => b.set_cell(CellParameter(v0), v1),
-        OPEN => b.open(v0, v1, v2),
-        CLOSE => b.close(v0, v1),
-        SET_GAIN => b.set_gain(v0, v1, v2),
-        SET_SYNC => b.set_sync(v0, v1, v2, x[3], x[4]),
+        SET_CELL => b.set_cell(CellParameter(first), second),
+        OPEN => b.open(first, second, third),
+        CLOSE => b.close(first, second),
+        SET_GAIN => b.set_gain(first, second, third),
+        SET_SYNC => b.set_sync(first, second, third, x[3], x[4]),
         CLEAR_SYNC => b.clear_sync(),
         _ => b.start(),
     }

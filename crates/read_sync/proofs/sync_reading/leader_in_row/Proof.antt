@@ -33,12 +33,12 @@ module _ (c : tie.After-row-of) where
   start = c .before
 
   small : (c .row-of .result .first < 16) × (c .row-of .result .second < 16) × (c .row-of .result .marker < 16)
-  small = subst (λ (r : Row). (r .first < 16) × (r .second < 16) × (r .marker < 16)) (sym (c .row-of .ensures)) (row-small (start .args .q) (start .args .set) (start .pre .0) (start .pre .1))
+  small = subst (λ (r : Row). (r .first < 16) × (r .second < 16) × (r .marker < 16)) (sym (c .row-of .ensures)) (row-small (start .args .n) (start .args .set) (start .pre .0) (start .pre .1))
 
-  row-is : c .row-of .result ≡ row (start .args .q) (start .args .set)
+  row-is : c .row-of .result ≡ row (start .args .n) (start .args .set)
   row-is = c .row-of .ensures
 
-  unit-is : toZ w32 (ofZ w32 (c .row-of .result .unit .re)) ≡ row (start .args .q) (start .args .set) .unit .re
+  unit-is : toZ w32 (ofZ w32 (c .row-of .result .unit .re)) ≡ row (start .args .n) (start .args .set) .unit .re
   unit-is = let e = ap (λ (r : Row). r .unit .re) row-is in toZ-ofZ (fits-within (subst (Within 1) (sym e) (unit-small _ _ .re)) tt) ∙ e
 
   -- the products
@@ -47,13 +47,13 @@ module _ (c : tie.After-row-of) where
 
   -- what counts of a product
   abbrev share : ℕ → ℤ
-  share i = (products i ⊗ conj (row (start .args .q) (start .args .set) .unit)) .re
+  share i = (products i ⊗ conj (row (start .args .n) (start .args .set) .unit)) .re
 
-  imaginary-parts : row (start .args .q) (start .args .set) .unit .re ≡ pos 0 → (i : ℕ) → leader-of-signs (products i .im) ≡ leader-of-signs (share i)
-  imaginary-parts e i = ap leader-of-signs (sym (by-unit (start .args .q) (start .args .set) (products i) (start .pre .0) .0 e))
+  imaginary-parts : row (start .args .n) (start .args .set) .unit .re ≡ pos 0 → (i : ℕ) → leader-of-signs (products i .im) ≡ leader-of-signs (share i)
+  imaginary-parts e i = ap leader-of-signs (sym (by-unit (start .args .n) (start .args .set) (products i) (start .pre .0) .0 e))
 
-  real-parts : row (start .args .q) (start .args .set) .unit .re ≢ pos 0 → (i : ℕ) → leader-of-signs (products i .re) ≡ leader-of-signs (share i)
-  real-parts n i = ap leader-of-signs (sym (by-unit (start .args .q) (start .args .set) (products i) (start .pre .0) .1 n))
+  real-parts : row (start .args .n) (start .args .set) .unit .re ≢ pos 0 → (i : ℕ) → leader-of-signs (products i .re) ≡ leader-of-signs (share i)
+  real-parts n i = ap leader-of-signs (sym (by-unit (start .args .n) (start .args .set) (products i) (start .pre .0) .1 n))
 
 sign-leader-requires : tie.Need-sign-leader-requires
 sign-leader-requires c κs = (small c .2, start c .pre .2)
@@ -102,7 +102,7 @@ returns-2 c =
     let t = c .before .before .before in
     let m = t .before .before .before in
     let r = m .before in
-    let n : row (start r .args .q) (start r .args .set) .unit .re ≢ pos 0 = λ e. t .if1 .left (ap (ofZ w32) (ap (λ (w : Row). w .unit .re) (row-is r) ∙ e)) in
+    let n : row (start r .args .n) (start r .args .set) .unit .re ≢ pos 0 = λ e. t .if1 .left (ap (ofZ w32) (ap (λ (w : Row). w .unit .re) (row-is r) ∙ e)) in
     let first-is = c .before .before .sign-leader4 .ensures ∙ ap (λ (w : Row). leader-of-signs (products r (w .first) .re)) (row-is r) ∙ real-parts r n _ in
     let second-is = c .before .sign-leader5 .ensures ∙ ap (λ (w : Row). leader-of-signs (products r (w .second) .re)) (row-is r) ∙ real-parts r n _ in
     let marker-is = m .sign-leader .ensures ∙ ap (λ (w : Row). leader-of-signs (products r (w .marker) .re)) (row-is r) in
