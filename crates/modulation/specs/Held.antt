@@ -2,7 +2,7 @@
 use lib.IntN.{ℤ, pos, _+ℤ_, _-ℤ_, _*ℤ_}
 use Prim.Native.Nat.{ℕ, _+_, _*_, _/_, _%_}
 use mathlib.Core.List.{List}
-use mathlib.Core.Bool.{Bool, not, cond}
+use mathlib.Core.Bool.{Bool, true, false, not, cond}
 use lib.Dec.{eqb}
 use lib.ListN.{getD}
 use Rattle.complex.specs.declared.Complex.{Complex}
@@ -19,6 +19,7 @@ use Rattle.codes.specs.SyncCodes.{a, b}
 use Rattle.modulation.specs.declared.Block.{Block}
 use Rattle.modulation.specs.declared.data.OpenLevels.{OpenLevels}
 use Rattle.modulation.specs.Nodes.{node}
+use Rattle.modulation.specs.Symbols.{symbol}
 
 -- f 0, .., f 15 in a block
 abbrev pub block-of : (ℕ → Complex) → Block
@@ -75,6 +76,18 @@ turn-at p i = scrambling p (i + 1) ⊗ (pos 1 +j pos 1)
 -- entry i of the turns t times that of `even` or of `odd`, by the place's parity
 abbrev pub turned : List ℤ → List ℤ → List ℤ → ℕ → ℤ
 turned t even odd i = getD t i (pos 0) *ℤ cond (eqb (i % 2) 0) (getD even i (pos 0)) (getD odd i (pos 0))
+
+-- ---- a block from the tables
+-- one component of the sixteen chips before scrambling, from the pairs that stand from `from` on
+abbrev pub spread-row : List ℕ → List ℕ → ℕ → Bool → List ℤ
+spread-row gains pairs from re = listed 16 (spread gains (listed 16 (λ i. component (symbol (getD pairs (from + i) 0)) re)))
+
+-- chip c of them, scrambled by its turns t and u
+abbrev pub block-chip : List ℕ → List ℕ → ℕ → List ℤ → List ℤ → ℕ → Complex
+block-chip gains pairs from t u c =
+    let x = spread-row gains pairs from true in
+    let y = spread-row gains pairs from false in
+    turned t y x c +j turned u x y c
 
 -- ---- the burst by parts of sixteen chips
 -- what (1 + j) b is multiplied by in part m of a modulated code

@@ -1,9 +1,11 @@
 // The sync burst by its parts of sixteen chips.
 ghost use mathlib.Core.Path.{_≡_};
 ghost use Prim.Native.Nat.{_+_, _*_, _<_};
-ghost use lib.IntN.{pos};
+ghost use lib.IntN.{pos, _+ℤ_};
+ghost use lib.ListN.{getD};
 ghost use Rattle.complex.specs.Arithmetic.{_+j_, real, 𝟎, _⊗_};
-ghost use Rattle.complex.specs.Fits.{Both, Within};
+ghost use Rattle.complex.specs.Buffers.{listed};
+ghost use Rattle.complex.specs.Fits.{Both, Bound, Within};
 ghost use Rattle.codes.specs.Burst.{burst};
 ghost use Rattle.modulation.specs.Held.{block-of, modulated-part as modulated-part-of, modulated-parts as modulated-parts-of, part-chip as part-chip-of};
 use crate::Block;
@@ -90,4 +92,16 @@ pub fn silence() -> Block
         re: [0i32; 16],
         im: [0i32; 16],
     }
+}
+
+// The sums of one component of a block's chips and of a burst's.
+pub fn sums(x: &[i32; 16], y: &[i32; 16]) -> [i32; 16]
+    requires { ⌜ Bound 2031585 (now x) × Bound 1000000 (now y) ⌝ }
+    ensures { λ r. ⌜ r ≡ listed 16 (λ i. getD (now (x .entry)) i (pos 0) +ℤ getD (now (y .entry)) i (pos 0)) ⌝ }
+{
+    let mut z = [0i32; 16];
+    for i in 0..16 {
+        z[i] = x[i] + y[i];
+    }
+    z
 }

@@ -10,7 +10,7 @@ ghost use Rattle.complex.specs.Fits.{Bound, Within};
 ghost use Rattle.codes.specs.Tree.{is-spreading-factor, width};
 ghost use Rattle.modulation.specs.Symbols.{symbol as symbol-of};
 ghost use Rattle.modulation.specs.Nodes.{node as node-of};
-ghost use Rattle.modulation.specs.Held.{block-of, climbed as climbed-of, component as component-of, has-open, joined as joined-of, levels-of, raised as raised-of, spread as spread-of, turn-at, turned as turned-of};
+ghost use Rattle.modulation.specs.Held.{block-chip, block-of, climbed as climbed-of, component as component-of, has-open, joined as joined-of, levels-of, raised as raised-of, spread as spread-of, turn-at, turned as turned-of};
 use crate::Block;
 use codes::CellParameter;
 use codes::scrambling;
@@ -37,7 +37,7 @@ fn component(z: Complex, real: bool) -> i32
 }
 
 // One component of the symbols of the sixteen pairs from `from` on.
-pub fn symbols(pairs: &[u8; 2208], from: usize, real: bool) -> [i32; 16]
+fn symbols(pairs: &[u8; 2208], from: usize, real: bool) -> [i32; 16]
     requires { ⌜ from + 16 ≤ 2208 ⌝ }
     ensures { λ r. ⌜ r ≡ listed 16 (λ i. component-of (symbol-of (getD (now (pairs .entry)) (from + i) 0)) real) ⌝ }
 {
@@ -178,7 +178,7 @@ pub fn open_levels(gains: &[u16; 31]) -> OpenLevels
 
 // One component of the sixteen chips before scrambling, from that component of the sixteen symbols: four rounds of sums and
 // differences up the tree, since each code stands in the two below it, once with its second half negated.
-pub fn spread(gains: &[u16; 31], levels: OpenLevels, s: &[i32; 16]) -> [i32; 16]
+fn spread(gains: &[u16; 31], levels: OpenLevels, s: &[i32; 16]) -> [i32; 16]
     requires { ⌜ (levels ≡ levels-of (now gains)) × Bound 1 (now s) ⌝ }
     ensures entries { λ r. ⌜ r ≡ listed 16 (spread-of (now (gains .entry)) (now (s .entry))) ⌝ }
     ensures size { λ r. ⌜ Bound 2031585 r ⌝ }
@@ -237,7 +237,7 @@ fn turned_entry(t: &[i32; 16], even: &[i32; 16], odd: &[i32; 16], i: usize) -> i
 
 // One component of sixteen values times the scrambling code, from the code's turns for this component and the values' components that make
 // it at even places and at odd ones.
-pub fn turned(t: &[i32; 16], even: &[i32; 16], odd: &[i32; 16]) -> [i32; 16]
+fn turned(t: &[i32; 16], even: &[i32; 16], odd: &[i32; 16]) -> [i32; 16]
     requires { ⌜ Bound 1 (now t) × Bound 2031585 (now even) × Bound 2031585 (now odd) ⌝ }
     ensures { λ r. ⌜ r ≡ listed 16 (turned-of (now (t .entry)) (now (even .entry)) (now (odd .entry))) ⌝ }
 {
@@ -246,4 +246,26 @@ pub fn turned(t: &[i32; 16], even: &[i32; 16], odd: &[i32; 16]) -> [i32; 16]
         y[i] = turned_entry(t, even, odd, i);
     }
     y
+}
+
+// The sixteen chips, before the burst, whose pairs stand from `from` on; `tre` and `tim` are the scrambling code's turns.
+pub fn block<'a>(
+    gains: &'a [u16; 31],
+    levels: OpenLevels,
+    pairs: &'a [u8; 2208],
+    from: usize,
+    tre: &'a [i32; 16],
+    tim: &'a [i32; 16],
+) -> Block
+    requires { ⌜ (from + 16 ≤ 2208) × (levels ≡ levels-of (now gains)) × Bound 1 (now tre) × Bound 1 (now tim) ⌝ }
+    ensures chips { λ r. ⌜ r ≡ block-of (block-chip (now (gains .entry)) (now (pairs .entry)) from (now (tre .entry)) (now (tim .entry))) ⌝ }
+    ensures size { λ r. ⌜ Bound 2031585 (r .re) × Bound 2031585 (r .im) ⌝ }
+{
+    let sre = symbols(pairs, from, true);
+    let sim = symbols(pairs, from, false);
+    let x = spread(gains, levels, &sre);
+    let y = spread(gains, levels, &sim);
+    let re = turned(tre, &y, &x);
+    let im = turned(tim, &x, &y);
+    Block { re: re, im: im }
 }

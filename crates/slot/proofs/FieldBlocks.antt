@@ -17,12 +17,12 @@ use Rattle.complex.proofs.Lists.{value-in-buffers, listed-at, listed-cong}
 use Rattle.complex.proofs.Ring.{⊕-𝟎}
 use Rattle.codes.specs.Scrambling.{scrambling}
 use Rattle.modulation.specs.declared.Block.{Block}
-use Rattle.modulation.specs.Held.{block-of, turn-at}
+use Rattle.modulation.specs.Held.{block-of, turn-at, spread-row, block-chip}
 use Rattle.modulation.proofs.Turns.{turned-chip}
 use Rattle.slot.specs.declared.Settings.{Settings}
 use Rattle.slot.specs.Slot.{data-chips, data-chip, sync-chip, field-chip}
 use Rattle.slot.specs.Tables.{view, view-sync}
-use Rattle.slot.specs.Held.{spread-row, block-chip, held-chip}
+use Rattle.slot.specs.Held.{held-chip}
 use Rattle.slot.proofs.Viewed.{symbols-from, spread-chip, data-is}
 
 -- ---- one component of the chips of a block f and of a burst b

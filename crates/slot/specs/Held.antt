@@ -1,33 +1,19 @@
 -- How the code makes the chips of a slot, sixteen at a time. Nothing here is document 01's: the contracts of the bench's calls do not name it.
 use lib.IntN.{ℤ}
 use Prim.Native.Nat.{ℕ, _+_, _-_, _%_}
-use mathlib.Core.Bool.{Bool, true, false, _&&_}
+use mathlib.Core.Bool.{Bool, false, _&&_}
 use mathlib.Core.List.{List}
 use mathlib.Core.Option.{Option, none, some}
 use lib.Dec.{leb, ltb}
-use lib.ListN.{getD}
 use Rattle.complex.specs.declared.Complex.{Complex}
-use Rattle.complex.specs.Arithmetic.{_+j_, _⊕_}
-use Rattle.complex.specs.Buffers.{listed}
+use Rattle.complex.specs.Arithmetic.{_⊕_}
 use Rattle.codes.specs.Scrambling.{code-group}
 use Rattle.codes.specs.Burst.{burst-start}
-use Rattle.modulation.specs.Symbols.{symbol}
-use Rattle.modulation.specs.Held.{component, spread, turned}
+use Rattle.modulation.specs.Held.{block-chip}
 use Rattle.slot.specs.declared.Sync.{Sync}
 use Rattle.slot.specs.Setup.{SyncSetup}
 use Rattle.slot.specs.Slot.{sync-chip}
 use Rattle.slot.specs.Tables.{view-sync}
-
--- one component of the sixteen chips before scrambling, from the pairs that stand from `from` on
-abbrev pub spread-row : List ℕ → List ℕ → ℕ → Bool → List ℤ
-spread-row gains pairs from re = listed 16 (spread gains (listed 16 (λ i. component (symbol (getD pairs (from + i) 0)) re)))
-
--- chip c of them, scrambled by its turns t and u
-abbrev pub block-chip : List ℕ → List ℕ → ℕ → List ℤ → List ℤ → ℕ → Complex
-block-chip gains pairs from t u c =
-    let x = spread-row gains pairs from true in
-    let y = spread-row gains pairs from false in
-    turned t y x c +j turned u x y c
 
 -- chip q of a field, with the burst's: as `field-chip`, from its block. `before` is how many chips the fields before it have, `start` the slot's chip at
 -- which it starts

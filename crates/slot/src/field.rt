@@ -3,20 +3,21 @@ ghost use mathlib.Core.Path.{_≡_};
 ghost use mathlib.Core.Bool.{cond};
 ghost use Prim.Native.Nat.{_+_, _-_, _%_, _<_, _≤_, min};
 ghost use lib.Dec.{ltb};
-ghost use lib.IntN.{pos, _+ℤ_};
+ghost use lib.IntN.{pos};
 ghost use lib.ListN.{getD, length};
 ghost use Rattle.complex.specs.Arithmetic.{𝟎, _⊕_};
 ghost use Rattle.complex.specs.Buffers.{listed, value};
 ghost use Rattle.complex.specs.Fits.{Bound};
-ghost use Rattle.modulation.specs.Held.{block-of, levels-of};
+ghost use Rattle.modulation.specs.Held.{block-chip, levels-of};
 ghost use Rattle.slot.specs.Slot.{chip, sync-chip};
 ghost use Rattle.slot.specs.Tables.{settings-of, view, view-sync};
-ghost use Rattle.slot.specs.Held.{block-chip, held-chip};
+ghost use Rattle.slot.specs.Held.{held-chip};
 use crate::Sync;
 use crate::burst;
 use crate::parts;
 use codes::CellParameter;
 use modulation::Block;
+use modulation::burst::sums;
 use modulation::data;
 use modulation::data::OpenLevels;
 
@@ -32,28 +33,6 @@ pub fn past(a: usize, b: usize) -> usize
     ensures { λ r. ⌜ r ≡ a - b ⌝ }
 {
     if a <= b { 0 } else { a - b }
-}
-
-// The sixteen chips, before the burst, whose pairs stand from `from` on; `tre` and `tim` are the scrambling code's turns.
-fn block<'a>(
-    gains: &'a [u16; 31],
-    levels: OpenLevels,
-    pairs: &'a [u8; 2208],
-    from: usize,
-    tre: &'a [i32; 16],
-    tim: &'a [i32; 16],
-) -> Block
-    requires { ⌜ (from + 16 ≤ 2208) × (levels ≡ levels-of (now gains)) × Bound 1 (now tre) × Bound 1 (now tim) ⌝ }
-    ensures chips { λ r. ⌜ r ≡ block-of (block-chip (now (gains .entry)) (now (pairs .entry)) from (now (tre .entry)) (now (tim .entry))) ⌝ }
-    ensures size { λ r. ⌜ Bound 2031585 (r .re) × Bound 2031585 (r .im) ⌝ }
-{
-    let sre = data::symbols(pairs, from, true);
-    let sim = data::symbols(pairs, from, false);
-    let x = data::spread(gains, levels, &sre);
-    let y = data::spread(gains, levels, &sim);
-    let re = data::turned(tre, &y, &x);
-    let im = data::turned(tim, &x, &y);
-    Block { re: re, im: im }
 }
 
 // The entries of a block from `from` on, as many as the part of a buffer has.
@@ -81,23 +60,11 @@ fn write_whole<'a>(
     ensures real { λ r. ⌜ now (re .exit) ≡ listed 16 (λ i. block-chip (now (gains .entry)) (now (pairs .entry)) from (now (tre .entry)) (now (tim .entry)) i .re) ⌝ }
     ensures imaginary { λ r. ⌜ now (im .exit) ≡ listed 16 (λ i. block-chip (now (gains .entry)) (now (pairs .entry)) from (now (tre .entry)) (now (tim .entry)) i .im) ⌝ }
 {
-    let c = block(gains, levels, pairs, from, tre, tim);
+    let c = data::block(gains, levels, pairs, from, tre, tim);
     let cre = c.re;
     let cim = c.im;
     put(re, &cre, 0);
     put(im, &cim, 0);
-}
-
-// The sums of the entries of two blocks' components.
-fn sums(x: &[i32; 16], y: &[i32; 16]) -> [i32; 16]
-    requires { ⌜ Bound 2031585 (now x) × Bound 1000000 (now y) ⌝ }
-    ensures { λ r. ⌜ r ≡ listed 16 (λ i. getD (now (x .entry)) i (pos 0) +ℤ getD (now (y .entry)) i (pos 0)) ⌝ }
-{
-    let mut z = [0i32; 16];
-    for i in 0..16 {
-        z[i] = x[i] + y[i];
-    }
-    z
 }
 
 // A block's chips from chip i on with the burst's chips b, as many as the parts have.
@@ -117,7 +84,7 @@ fn write_part<'a>(
     ensures real { λ r. ⌜ now (re .exit) ≡ listed (length (now (re .entry))) (λ j. (block-chip (now (gains .entry)) (now (pairs .entry)) from (now (tre .entry)) (now (tim .entry)) (i + j) ⊕ value (b .re) (b .im) (i + j)) .re) ⌝ }
     ensures imaginary { λ r. ⌜ now (im .exit) ≡ listed (length (now (im .entry))) (λ j. (block-chip (now (gains .entry)) (now (pairs .entry)) from (now (tre .entry)) (now (tim .entry)) (i + j) ⊕ value (b .re) (b .im) (i + j)) .im) ⌝ }
 {
-    let c = block(gains, levels, pairs, from, tre, tim);
+    let c = data::block(gains, levels, pairs, from, tre, tim);
     let cre = c.re;
     let cim = c.im;
     let bre = b.re;

@@ -5,9 +5,9 @@ use native.Mathlib.Omega.{arith}
 use borrow.Author.Needs.{needs}
 use borrow.Author.Tests.{eqb-true, not-true}
 use Rattle.complex.specs.declared.Complex.{Complex}
+use Rattle.modulation.specs.Held.{block-chip}
 use Rattle.slot.specs.Slot.{sync-chip}
 use Rattle.slot.specs.Tables.{view-sync}
-use Rattle.slot.specs.Held.{block-chip}
 use Rattle.slot.proofs.BurstBlocks.{falls-nowhere}
 use Rattle.slot.proofs.FieldBlocks.{whole-chips, part-chips}
 use Rattle.slot.proofs.field.write_block.Statement.{statement}

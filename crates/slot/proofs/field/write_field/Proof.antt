@@ -11,9 +11,10 @@ use lib.Seq.{length-take-le}
 use Rattle.complex.specs.declared.Complex.{Complex}
 use Rattle.complex.specs.Arithmetic.{_⊕_}
 use Rattle.complex.specs.Buffers.{listed, written}
+use Rattle.modulation.specs.Held.{block-chip}
 use Rattle.slot.specs.Slot.{sync-chip}
 use Rattle.slot.specs.Tables.{view-sync}
-use Rattle.slot.specs.Held.{block-chip, held-chip}
+use Rattle.slot.specs.Held.{held-chip}
 use Rattle.slot.proofs.Pieces.{length-written, part-written, filled}
 use Rattle.slot.proofs.field.write_field.Statement.{statement}
 use Rattle.slot.proofs.field.write_field.Tie as tie

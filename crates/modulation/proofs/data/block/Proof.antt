@@ -5,12 +5,11 @@ use mathlib.Core.List.{List}
 use borrow.Author.Needs.{needs}
 use lib.IntN.{ℤ}
 use Rattle.complex.specs.Buffers.{listed}
-use Rattle.modulation.specs.Held.{spread, turned}
+use Rattle.modulation.specs.Held.{spread, turned, spread-row}
 use Rattle.modulation.proofs.Blocks.{symbols-bound}
 use Rattle.modulation.proofs.Turns.{turned-bound}
-use Rattle.slot.specs.Held.{spread-row}
-use Rattle.slot.proofs.field.block.Statement.{statement}
-use Rattle.slot.proofs.field.block.Tie as tie
+use Rattle.modulation.proofs.data.block.Statement.{statement}
+use Rattle.modulation.proofs.data.block.Tie as tie
 
 spread-requires : tie.Need-spread-requires
 spread-requires c κs = (c .before .before .before .pre .1, symbols-bound _ true (c .before .before .symbols .ensures))

@@ -11,9 +11,9 @@ use mir.Facts.{toZ-ofZ}
 use Rattle.complex.specs.Fits.{Bound}
 use Rattle.complex.proofs.Machine.{add-asks}
 use Rattle.complex.proofs.Sizes.{within-add, fits-within}
 use Rattle.modulation.proofs.Blocks.{Row, row-none, row-more, row-all}
-use Rattle.slot.proofs.field.sums.Statement.{statement}
-use Rattle.slot.proofs.field.sums.Tie as tie
+use Rattle.modulation.proofs.burst.sums.Statement.{statement}
+use Rattle.modulation.proofs.burst.sums.Tie as tie
 
 abbrev Inv-loop : tie.InvT-loop
 Inv-loop x y z₀ i₀ z i = Row (λ i. getD x i (pos 0) +ℤ getD y i (pos 0)) z i
