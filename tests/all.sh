@@ -23,6 +23,7 @@ status=0
 rt ci >"$room/said" 2>&1 || status=$?
 wait
 [ $status = 0 ] && grep -qx '[0-9][0-9]* passed, 0 failed' "$room/verdict" || {
+    grep -vx '[0-9][0-9]* passed, 0 failed' "$room/verdict" >&2 || : # a good line is not shown where the status is bad
     echo "test: rt ci failed, with status $status; what it said is above" >&2
     exit 1
 }
