@@ -1,6 +1,6 @@
 # make test: every check of the repository; its last line is rt ci's verdict.
 # make libraries: prove the libraries for hosts and build them into lib/, which stays when target/ goes.
-# make benchmark: build what it needs and print the table of docs/PERFORMANCE.md.
+# make benchmark: build what it needs and print the two tables of docs/PERFORMANCE.md.
 # make values: prove and build the code rules, and print every value of them.
 # make vectors: prove and build the analyser, and print its answers to the test vectors.
 # make slots: prove and build the bench, and print its answers to a script of calls.

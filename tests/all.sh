@@ -6,6 +6,7 @@ cd "$(dirname "$0")/.."
 rt fmt --check
 tests/contract-names.sh
 tests/export-contracts.sh
+tests/spec-names.sh
 
 room=$(mktemp -d)
 trap 'rm -rf "$room"' EXIT

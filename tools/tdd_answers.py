@@ -1,6 +1,6 @@
 """Prints what the program tdd must print on standard output for scripts.
 
-Run from the repository's root, with the path of the text of TS 25.223 V3.3.0 and then the scripts;
+Takes the path of the text of TS 25.223 V3.3.0 and then the scripts, by their names from where it is run;
 where none is named, the script is read from standard input:
 
     python3 tools/tdd_answers.py TS-25.223-V3.3.0.txt [SCRIPT]...

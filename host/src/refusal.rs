@@ -15,7 +15,7 @@ impl Refusal {
         }
     }
 
-    /// What was wrong, and what would be right.
+    /// What was wrong.
     pub fn meaning(self) -> &'static str {
         match self.0 {
             1 => "the cell parameter is above 127, or the code group above 31",

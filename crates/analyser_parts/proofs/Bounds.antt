@@ -7,7 +7,7 @@ use Rattle.complex.specs.Fits.{Within, Bound}
 use Rattle.complex.proofs.Sizes.{within-more, within-mul}
 use Rattle.complex.proofs.Components.{within-Σℤ}
 use Rattle.codes.proofs.Rows.{sign-within}
-use Rattle.analyser_parts.specs.Held.{signed-sum}
+use Rattle.analyser_parts.specs.PartSums.{signed-sum}
 
 pub signed-sum-within : {k : ℕ} {x : List ℤ} → Bound k x → (from row : ℕ) → Within (16 * k) (signed-sum x from row)
 unfolding signed-sum

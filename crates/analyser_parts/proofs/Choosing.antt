@@ -9,7 +9,7 @@ use lib.Signed.{leZ, ltZ}
 use Rattle.complex.proofs.Order.{ltZ-true, ltZ-false, leZ-true, le-leZ, lt-ltZ, lt-leZ}
 use Rattle.codes.proofs.Tests.{each-all, each-not}
 use Rattle.analyser_parts.specs.Choice.{smallest, has-largest}
-use Rattle.analyser_parts.specs.Held.{or-later, Peaks}
+use Rattle.analyser_parts.specs.Peaks.{or-later, Peaks}
 use Rattle.analyser_parts.specs.declared.largest.Largest.{Largest}
 use Rattle.analyser_parts.proofs.Smallest.{smallest-is}
 

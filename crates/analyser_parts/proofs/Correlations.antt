@@ -9,20 +9,19 @@ use lib.IntN.{ℤ, pos, negℤ, _+ℤ_, _-ℤ_, _*ℤ_}
 use lib.ListN.{getD}
 use Rattle.complex.specs.declared.Complex.{Complex}
 use Rattle.complex.specs.Arithmetic.{_+j_, real, _⊗_, conj, Σ<, Σℤ<}
-use Rattle.complex.specs.Buffers.{value, listed}
+use Rattle.complex.specs.Buffers.{value, listed, _at_}
 use Rattle.complex.specs.Fits.{Both}
 use Rattle.complex.proofs.Integers.{ring, *ℤ-swap}
 use Rattle.complex.proofs.Ring.{by-components, products, ⊗-comm, conj-⊗, conj-real, real-*ℤ, real-⊗}
 use Rattle.complex.proofs.Sizes.{within-add, within-sub}
 use Rattle.complex.proofs.Sums.{Σ-cong, ⊗-Σ, Σ-blocks, Σℤ-cong, Σ-components}
 use Rattle.complex.proofs.Lists.{listed-at}
-use Rattle.codes.specs.Signs.{_at_}
-use Rattle.codes.specs.Held.{packed, sign-bit, secondary-row}
+use Rattle.codes.specs.PackedSigns.{packed, sign-bit, secondary-row}
 use Rattle.codes.specs.SyncCodes.{a, a-signs, b, b-signs, Cp, C, hadamard-part, is-sync-code}
 use Rattle.codes.proofs.Rows.{read-back, a-test, a-signs-test, b-test}
 use Rattle.codes.proofs.Parts.{Cp-parts, C-parts, secondary-signs, sync-code-below}
 use Rattle.analyser_parts.specs.Correlation.{correlation, P, S}
-use Rattle.analyser_parts.specs.Held.{correlated, part-sums, primary-sum, signed-sum}
+use Rattle.analyser_parts.specs.PartSums.{correlated, part-sums, primary-sum, signed-sum}
 
 pub times-one-minus-j : (z : Complex) → z ⊗ conj (pos 1 +j pos 1) ≡ (z .re +ℤ z .im) +j (z .im -ℤ z .re)
 unfolding _⊗_ conj

@@ -1,4 +1,5 @@
 pub mod Choice
 pub mod Components
 pub mod Correlation
-pub mod Held
+pub mod Peaks
+pub mod PartSums

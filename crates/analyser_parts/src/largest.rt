@@ -1,6 +1,6 @@
 // The largest of values that come one after another, and which it was.
 ghost use mathlib.Core.Path.{_≡_};
-ghost use Rattle.analyser_parts.specs.Held.{or-later};
+ghost use Rattle.analyser_parts.specs.Peaks.{or-later};
 
 pub struct Largest {
     pub at: usize,

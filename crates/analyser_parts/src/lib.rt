@@ -1,4 +1,5 @@
-// What the analyser's calls share; each call is a crate of its own (read, harden, read_sync, find). The products of
+// What the analyser's calls share, and what stands beside it (`largest` is for find, `wide` for read sync); each call is a crate of its own
+// (read, harden, read_sync, find). The products of
 // `correlation` ask for sizes that fit; all else is total.
 pub mod components;
 pub mod correlation;

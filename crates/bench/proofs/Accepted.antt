@@ -9,17 +9,17 @@ use lib.Dec.{T, leb, leb→le}
 use mir.Facts.{and-yes, fits-below}
 use mir.Syntax.{w16}
 use mir.Val.{Fits}
-use Rattle.codes.specs.Refusals.{refused, gives, Refusal, _otherwise_, outcome, number, _if_}
+use Rattle.codes.specs.Refusals.{refused, gives, Refusal, _otherwise_, outcome, refusal-number, _if_}
 use Rattle.codes.specs.Tree.{is-spreading-factor}
 use Rattle.codes.proofs.Refused.{numbered, Passed, passed, accepted, not-accepted, refused-early, passed-early}
 use Rattle.codes.proofs.Factors.{factor-range}
 use Rattle.tables.proofs.Blocks.{Code}
-use Rattle.bench.specs.Held.{code-refusals}
+use Rattle.bench.specs.CodeRefusals.{code-refusals}
 use Rattle.bench.specs.declared.Bench.{Bench}
 use Rattle.bench.specs.BenchCalls.{bad-gain, left-by}
 
 -- ---- the two ways of a call whose tests found number n: it refuses and the bench stays, or it accepts and leaves the new bench
-module _ (rs : List Refusal) (b new : Bench) {n : ℕ} (e : n ≡ number rs) where
+module _ (rs : List Refusal) (b new : Bench) {n : ℕ} (e : n ≡ refusal-number rs) where
   pub call-refused : n ≢ 0 → (refused n ≡ outcome (rs otherwise new)) × (b ≡ left-by (rs otherwise new) b)
   call-refused d =
       let r = not-accepted new rs (λ z. d (e ∙ z)) in
@@ -31,14 +31,14 @@ module _ (rs : List Refusal) (b new : Bench) {n : ℕ} (e : n ≡ number rs) whe
       (sym (ap outcome r), sym (ap (λ a. left-by a b) r))
 
 -- ---- tests that found number n, alone or before others
-module _ (rs : List Refusal) {n : ℕ} (e : n ≡ number rs) where
+module _ (rs : List Refusal) {n : ℕ} (e : n ≡ refusal-number rs) where
   pub passed-all : T (numbered rs) → n ≡ 0 → Passed rs
   passed-all t z = passed rs t (sym e ∙ z)
 
-  pub refused-first : (qs : List Refusal) → n ≢ 0 → n ≡ number (rs ++ qs)
+  pub refused-first : (qs : List Refusal) → n ≢ 0 → n ≡ refusal-number (rs ++ qs)
   refused-first qs d = e ∙ sym (refused-early rs qs (λ z. d (e ∙ z)))
 
-  pub passed-first : (qs : List Refusal) → T (numbered rs) → n ≡ 0 → number (rs ++ qs) ≡ number qs
+  pub passed-first : (qs : List Refusal) → T (numbered rs) → n ≡ 0 → refusal-number (rs ++ qs) ≡ refusal-number qs
   passed-first qs t z = passed-early rs qs (passed-all t z)
 
 -- ---- what 3 and 4 let pass: the first tests of each call that takes a code
@@ -49,7 +49,7 @@ good-code Q k e f =
     record { factor = q; below = h; small = factor-range Q q .1; listed = rw (q, lt-ltb k Q h) }
 
 -- where the code tested 3 and 4 alone
-pub found-code : (Q k : ℕ) {n : ℕ} → n ≡ number (code-refusals Q k) → n ≡ 0 → Code Q k
+pub found-code : (Q k : ℕ) {n : ℕ} → n ≡ refusal-number (code-refusals Q k) → n ≡ 0 → Code Q k
 unfolding numbered
 found-code Q k e z = let p = passed-all (code-refusals Q k) e tt z in good-code Q k (p .0) (p .1 .0)
 

@@ -14,8 +14,8 @@ use Rattle.slot.specs.declared.Settings.{Settings}
 use Rattle.slot.specs.Setup.{is-open, is-some}
 use Rattle.slot.specs.Slot.{bit-count}
 use Rattle.slot.specs.Tables.{held-bit, held-channel, view, view-channel}
-use Rattle.tables.specs.Held.{open-at}
-use Rattle.tables.specs.Held.{clashes}
+use Rattle.tables.specs.OpenCodes.{open-at}
+use Rattle.tables.specs.OpenCodes.{clashes}
 use Rattle.bench.specs.BenchCalls.{related-to-open, some-code}
 
 -- a channel is held where the gain is not 0

@@ -12,19 +12,20 @@ use lib.Dec.{leb}
 use lib.ListN.{length, getD, take, drop, replicate, length-set, length-take}
 use lib.Seq.{drop-cons, take-length, take-take}
 use Rattle.codes.specs.Range.{any}
-use Rattle.codes.specs.Refusals.{Answer, gives, refused, Refusal, _if_, _otherwise_, number}
+use Rattle.codes.specs.Refusals.{Answer, gives, refused, Refusal, _if_, _otherwise_, refusal-number}
 use Rattle.codes.specs.Tree.{is-spreading-factor}
 use Rattle.codes.proofs.Refused.{numbered, passed, accepted, not-accepted}
 use Rattle.slot.specs.declared.Settings.{Settings}
 use Rattle.slot.specs.Tables.{view}
-use Rattle.tables.specs.Held.{is-leaf-open, with-open-cleared}
-use Rattle.tables.specs.Held.{clashes}
+use Rattle.tables.specs.OpenCodes.{is-leaf-open}
+use Rattle.tables.specs.PairChanges.{with-open-cleared}
+use Rattle.tables.specs.OpenCodes.{clashes}
 use Rattle.tables.proofs.Cleared.{one-more-open}
 use Rattle.bench.specs.declared.Bench.{Bench}
 use Rattle.bench.specs.declared.Channel.{Channel}
 use Rattle.bench.specs.declared.Planned.{Planned}
 use Rattle.bench.specs.declared.taken.Taken.{Taken}
-use Rattle.bench.specs.BenchCalls.{AnswerAt, bad-gain, fresh-settings, load-plan-call, open-refusals, opened-in-turn, plan-left-by, plan-outcome, refused-at, some-code, told-plan}
+use Rattle.bench.specs.BenchCalls.{AnswerAt, bad-gain, fresh-settings, load-plan-call, open-refusals, opened-in-order, plan-left-by, plan-outcome, refused-at, some-code, answer-of-plan}
 use Rattle.bench.specs.Changes.{with-bits, with-gain, with-gains, with-pairs, with-settings}
 use Rattle.bench.specs.Taken.{all-opened, gains-after, none-taken, open-number, settled, with-opened, with-record, with-records}
 use Rattle.bench.proofs.Accepted.{gain-range, good-code}
@@ -32,7 +33,7 @@ use Rattle.bench.proofs.Opened.{related-in-gains}
 
 -- what the contract of a load says of its result r: a is the answer, and b the bench that it took
 abbrev pub Answers : AnswerAt Bench → Bench → Planned → Type 0
-Answers a b r = (told-plan (r .answer) ≡ plan-outcome a) × (r .bench ≡ plan-left-by a b)
+Answers a b r = (answer-of-plan (r .answer) ≡ plan-outcome a) × (r .bench ≡ plan-left-by a b)
 
 -- once a record failed, the rest changes nothing
 module _ (t : Taken) (d : t .number ≢ 0) where
@@ -76,8 +77,8 @@ module _ (b : Bench) (g : List ℕ) (len : length g ≡ 31) (c : Channel) where
   abbrev next : Bench
   next = with-settings b (with-bits (with-gain before (c .q) (c .k) (c .gain)) (c .q) (c .k) [])
 
-  same-number : number refusals ≡ open-number g c
-  same-number = ap number (refusals-in-gains before (with-gains fresh-settings g) refl (c .q) (c .k) (c .gain))
+  same-number : refusal-number refusals ≡ open-number g c
+  same-number = ap refusal-number (refusals-in-gains before (with-gains fresh-settings g) refl (c .q) (c .k) (c .gain))
 
   opens : open-number g c ≡ 0 → (refusals otherwise next) ≡ gives (with-opened b (gains-after g c))
   unfolding numbered
@@ -94,17 +95,17 @@ module _ (b : Bench) (g : List ℕ) (len : length g ≡ 31) (c : Channel) where
   fails d = not-accepted next refusals (λ z. d (sym same-number ∙ z)) ∙ ap refused same-number
 
 -- so the records are opened in turn
-in-turn : (b : Bench) (g : List ℕ) → length g ≡ 31 → (place : ℕ) (cs : List Channel)
-    → settled b (with-records (all-opened g) place cs) ≡ opened-in-turn place (with-opened b g) cs
-unfolding with-records settled opened-in-turn
-in-turn b g len place [] = refl
-in-turn b g len place (c ∷ cs) = go (ℕ-discrete (open-number g c) 0) (in-turn b (gains-after g c) (length-set g _ _ ∙ len) (suc place) cs)
+in-order : (b : Bench) (g : List ℕ) → length g ≡ 31 → (place : ℕ) (cs : List Channel)
+    → settled b (with-records (all-opened g) place cs) ≡ opened-in-order place (with-opened b g) cs
+unfolding with-records settled opened-in-order
+in-order b g len place [] = refl
+in-order b g len place (c ∷ cs) = go (ℕ-discrete (open-number g c) 0) (in-order b (gains-after g c) (length-set g _ _ ∙ len) (suc place) cs)
   where
     then : Answer Bench → AnswerAt Bench
-    then a = elim a [ refused m ↦ refused-at m place | gives next ↦ opened-in-turn (suc place) next cs ]
+    then a = elim a [ refused m ↦ refused-at m place | gives next ↦ opened-in-order (suc place) next cs ]
 
     go : Dec (open-number g c ≡ 0)
-        → settled b (with-records (all-opened (gains-after g c)) (suc place) cs) ≡ opened-in-turn (suc place) (with-opened b (gains-after g c)) cs
+        → settled b (with-records (all-opened (gains-after g c)) (suc place) cs) ≡ opened-in-order (suc place) (with-opened b (gains-after g c)) cs
         → settled b (with-records (with-record (all-opened g) place c) (suc place) cs) ≡ then (refusals b g len c otherwise next b g len c)
     go (yes e) on =
         ap (λ (t : Taken). settled b (with-records t (suc place) cs)) (sym (next-opened (all-opened g) place c refl refl e)) ∙ on
@@ -116,7 +117,7 @@ in-turn b g len place (c ∷ cs) = go (ℕ-discrete (open-number g c) 0) (in-tur
 
 pub plan-settled : (b : Bench) (plan : List Channel) → settled b (with-records none-taken 0 plan) ≡ load-plan-call b plan
 unfolding with-open-cleared any is-leaf-open
-plan-settled b plan = in-turn b (replicate 31 0) refl 0 plan
+plan-settled b plan = in-order b (replicate 31 0) refl 0 plan
 
 -- ---- the walk along the list
 -- what `getD` gives past the end

@@ -2,15 +2,15 @@
 -- document's own (`Setup`, by `view`).
 use Prim.Native.Nat.{ℕ, suc, _+_, _-_, min}
 use mathlib.Core.List.{List, [], _∷_}
-use mathlib.Core.Bool.{Bool, not, _&&_, _||_, cond}
+use mathlib.Core.Bool.{Bool, false, not, _&&_, _||_, cond}
 use lib.Dec.{eqb, leb}
 use lib.ListN.{length, replicate}
 use Rattle.complex.specs.Buffers.{Values, in-buffers}
 use Rattle.codes.specs.declared.CellParameter.{CellParameter}
 use Rattle.codes.specs.Range.{any}
 use Rattle.codes.specs.Refusals.{Answer, refused, gives, Refusal, _if_, _otherwise_, after}
-use Rattle.codes.specs.Tree.{among, is-spreading-factor, related}
-use Rattle.codes.specs.Allocation.{one-or-two, is-frame-and-half}
+use Rattle.codes.specs.Tree.{among, is-spreading-factor, over-factors, related}
+use Rattle.codes.specs.Allocation.{one-or-two, bad-frame-or-half}
 use Rattle.slot.specs.declared.Settings.{Settings}
 use Rattle.slot.specs.Setup.{Setup, is-open}
 use Rattle.slot.specs.Slot.{slot-length, bit-count, chip}
@@ -24,15 +24,15 @@ use Rattle.bench.specs.declared.PlanAnswer.{PlanAnswer}
 use Rattle.bench.specs.declared.PlanAnswer.the-variants.{Loaded, Refused as NotLoaded}
 use Rattle.bench.specs.declared.DrawAnswer.{DrawAnswer}
 use Rattle.bench.specs.declared.DrawAnswer.the-variants.{Drew, Refused as NotDrawn}
-use Rattle.bench.specs.Changes.{with-gain, with-bits, with-sync, no-sync, closed, all-closed, with-settings}
+use Rattle.bench.specs.Changes.{with-gain, with-bits, with-sync, no-sync, cell-settings, all-closed, with-settings}
 
 -- "the air: no slot, or a copy of the settings with a position": the copy is `sending`, and counts while `running` is not 0
-abbrev pub under-way : Bench → Bool
-under-way b = not (eqb (b .running) 0)
+abbrev pub is-running : Bench → Bool
+is-running b = not (eqb (b .running) 0)
 
 -- Fresh: parameter 0, type 1, nothing open, no sync, no slot.
 abbrev pub fresh-settings : Settings
-fresh-settings = closed (record { 0 = 0 }) 1 (replicate 2208 0)
+fresh-settings = cell-settings (record { 0 = 0 }) 1 (replicate 2208 0)
 
 abbrev pub fresh : Bench
 fresh = record { settings = fresh-settings; running = 0; sending = fresh-settings; position = 0 }
@@ -46,7 +46,7 @@ abbrev pub set-cell-refusals : ℕ → ℕ → List Refusal
 set-cell-refusals p t = 1 if leb 128 p ∷ 2 if not (among t (1 ∷ 2 ∷ 3 ∷ [])) ∷ []
 
 abbrev pub set-cell-call : Bench → CellParameter → ℕ → Answer Bench
-set-cell-call b p t = set-cell-refusals (p .0) t otherwise with-settings b (closed p t (b .settings .pairs))
+set-cell-call b p t = set-cell-refusals (p .0) t otherwise with-settings b (cell-settings p t (b .settings .pairs))
 
 -- "gain not 1 to 4095"
 abbrev pub bad-gain : ℕ → Bool
@@ -54,7 +54,7 @@ bad-gain g = not (leb 1 g && leb g 4095)
 
 -- a test passes at some code
 abbrev pub some-code : (ℕ → ℕ → Bool) → Bool
-some-code f = any 1 (f 1) || any 2 (f 2) || any 4 (f 4) || any 8 (f 8) || any 16 (f 16)
+some-code f = over-factors _||_ false (λ Q. any Q (f Q))
 
 -- "related to an open code"
 abbrev pub related-to-open : Setup → ℕ → ℕ → Bool
@@ -76,13 +76,13 @@ pub data AnswerAt (A : Type 0) : Type 0 where
   loads : A → AnswerAt A
 
 -- open for record after record, the first of them at `place`, each on the bench that the earlier ones left
-unfoldable pub opened-in-turn : ℕ → Bench → List Channel → AnswerAt Bench
-opened-in-turn place b [] = loads b
-opened-in-turn place b (c ∷ cs) =
-    elim (open-call b (c .q) (c .k) (c .gain)) [ refused n ↦ refused-at n place | gives next ↦ opened-in-turn (suc place) next cs ]
+unfoldable pub opened-in-order : ℕ → Bench → List Channel → AnswerAt Bench
+opened-in-order place b [] = loads b
+opened-in-order place b (c ∷ cs) =
+    elim (open-call b (c .q) (c .k) (c .gain)) [ refused n ↦ refused-at n place | gives next ↦ opened-in-order (suc place) next cs ]
 
 abbrev pub load-plan-call : Bench → List Channel → AnswerAt Bench
-load-plan-call b plan = opened-in-turn 0 (with-settings b (all-closed (b .settings))) plan
+load-plan-call b plan = opened-in-order 0 (with-settings b (all-closed (b .settings))) plan
 
 -- the answer of load plan: number and place, or nothing more
 abbrev pub plan-outcome : AnswerAt Bench → AnswerAt (Unit {0})
@@ -128,7 +128,7 @@ abbrev pub set-sync-refusals : Setup → ℕ → ℕ → ℕ → ℕ → ℕ →
 set-sync-refusals s case frame half gP gS =
     13 if not (eqb (s .type) 1) ∷
     14 if not (one-or-two case) ∷
-    15 if not (is-frame-and-half case frame half) ∷
+    15 if bad-frame-or-half case frame half ∷
     5 if (bad-gain gP || bad-gain gS) ∷ []
 
 abbrev pub set-sync-call : Bench → ℕ → ℕ → ℕ → ℕ → ℕ → Answer Bench
@@ -146,7 +146,7 @@ start-refusals slot-under-way = 10 if slot-under-way ∷ []
 
 abbrev pub start-call : Bench → Answer Bench
 start-call b =
-    start-refusals (under-way b) otherwise
+    start-refusals (is-running b) otherwise
     (record { settings = b .settings; running = 1; sending = b .settings; position = 0 })
 
 -- Draw (re buffer, im buffer) writes the next chips, as many as the smaller of buffer length and chips left. Later entries stay (`written`, in
@@ -173,21 +173,21 @@ moved-on b m =
 abbrev pub draw-call : Bench → ℕ → ℕ → Answer Draw
 draw-call b n n′ =
     let m = min n (slot-length - b .position) in
-    draw-refusals (under-way b) n n′ otherwise
+    draw-refusals (is-running b) n n′ otherwise
     (record { count = m; chips = in-buffers m (λ i. chip (view (b .sending)) (b .position + i)); bench = moved-on b m })
 
 -- ---- document 01's number and values for each case of the answers
-abbrev pub told-call : CallAnswer → Answer (Unit {0})
-told-call Accepted = gives tt
-told-call (Refused n) = refused n
+abbrev pub answer-of-call : CallAnswer → Answer (Unit {0})
+answer-of-call Accepted = gives tt
+answer-of-call (Refused n) = refused n
 
-abbrev pub told-plan : PlanAnswer → AnswerAt (Unit {0})
-told-plan Loaded = loads tt
-told-plan (NotLoaded n place) = refused-at n place
+abbrev pub answer-of-plan : PlanAnswer → AnswerAt (Unit {0})
+answer-of-plan Loaded = loads tt
+answer-of-plan (NotLoaded n place) = refused-at n place
 
-abbrev pub told-draw : DrawAnswer → Answer ℕ
-told-draw (Drew m) = gives m
-told-draw (NotDrawn n) = refused n
+abbrev pub answer-of-draw : DrawAnswer → Answer ℕ
+answer-of-draw (Drew m) = gives m
+answer-of-draw (NotDrawn n) = refused n
 
 -- of a draw its count
 abbrev pub counted : Answer Draw → Answer ℕ

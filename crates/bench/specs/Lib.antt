@@ -1,4 +1,4 @@
 pub mod Changes
 pub mod BenchCalls
-pub mod Held
+pub mod CodeRefusals
 pub mod Taken

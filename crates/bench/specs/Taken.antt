@@ -5,10 +5,10 @@ use mathlib.Core.Bool.{cond}
 use mathlib.Core.List.{List, [], _∷_}
 use lib.Dec.{eqb}
 use lib.ListN.{replicate, set}
-use Rattle.codes.specs.Refusals.{number}
+use Rattle.codes.specs.Refusals.{refusal-number}
 use Rattle.modulation.specs.Nodes.{node}
 use Rattle.slot.specs.Tables.{view}
-use Rattle.tables.specs.Held.{with-open-cleared}
+use Rattle.tables.specs.PairChanges.{with-open-cleared}
 use Rattle.bench.specs.declared.Bench.{Bench}
 use Rattle.bench.specs.declared.Channel.{Channel}
 use Rattle.bench.specs.declared.taken.Taken.{Taken}
@@ -25,7 +25,7 @@ none-taken = all-opened (replicate 31 0)
 
 -- the number that open finds for record c where these gains are set: no other setting counts
 abbrev pub open-number : List ℕ → Channel → ℕ
-open-number g c = number (open-refusals (view (with-gains fresh-settings g)) (c .q) (c .k) (c .gain))
+open-number g c = refusal-number (open-refusals (view (with-gains fresh-settings g)) (c .q) (c .k) (c .gain))
 
 -- the gains after record c
 abbrev pub gains-after : List ℕ → Channel → List ℕ

@@ -9,7 +9,7 @@ ghost use lib.Dec.{eqb, leb};
 ghost use Rattle.complex.specs.Buffers.{written};
 ghost use Rattle.codes.specs.Refusals.{after, gives, outcome, refused};
 ghost use Rattle.bench.specs.Changes.{no-sync, with-gains, with-pairs, with-settings};
-ghost use Rattle.bench.specs.BenchCalls.{close-call, clear-sync-call, counted, draw-call, fresh, fresh-settings, left-by, load-bits-call, load-plan-call, open-call, plan-left-by, plan-outcome, set-cell-call, set-gain-call, set-sync-call, start-call, told-call, told-draw, told-plan};
+ghost use Rattle.bench.specs.BenchCalls.{close-call, clear-sync-call, counted, draw-call, fresh, fresh-settings, left-by, load-bits-call, load-plan-call, open-call, plan-left-by, plan-outcome, set-cell-call, set-gain-call, set-sync-call, start-call, answer-of-call, answer-of-draw, answer-of-plan};
 use codes::CellParameter;
 use slot::Settings;
 use slot::Sync;
@@ -112,10 +112,10 @@ fn fresh_settings() -> Settings
     }
 }
 
-// The answer of a call whose refusal tests found this number. Such a call has one way out, with or without its change: two ways, each with a bench,
-// would be a copy more.
+// The answer of a call whose refusal tests found this number. A call that writes tables has one way out, with or without its change, and writes them
+// back as they were where it is refused: two ways, each with a bench, would be a copy more.
 fn answer(number: u32) -> CallAnswer
-    ensures { λ r. ⌜ told-call r ≡ cond (eqb number 0) (gives tt) (refused number) ⌝ }
+    ensures { λ r. ⌜ answer-of-call r ≡ cond (eqb number 0) (gives tt) (refused number) ⌝ }
 {
     match number {
         0 => CallAnswer::Accepted,
@@ -125,7 +125,7 @@ fn answer(number: u32) -> CallAnswer
 
 // The answer of a draw of n chips whose refusal tests found this number.
 fn draw_answer(number: u32, n: usize) -> DrawAnswer
-    ensures { λ r. ⌜ told-draw r ≡ cond (eqb number 0) (gives n) (refused number) ⌝ }
+    ensures { λ r. ⌜ answer-of-draw r ≡ cond (eqb number 0) (gives n) (refused number) ⌝ }
 {
     match number {
         0 => DrawAnswer::Drew(n),
@@ -133,6 +133,7 @@ fn draw_answer(number: u32, n: usize) -> DrawAnswer
     }
 }
 
+// Each call takes the bench with `mut self`, the form that document 01 names, also where nothing is assigned to it.
 impl Bench {
     // Parameter 0, type 1, nothing open, no sync, no slot.
     pub fn fresh() -> Bench
@@ -149,7 +150,7 @@ impl Bench {
 
     // Closes every code and clears sync. Refuses 1 parameter above 127; 2 type not 1, 2, 3.
     pub fn set_cell(mut self, cell: CellParameter, kind: u32) -> Answered
-        ensures answer { λ r. ⌜ told-call (r .answer) ≡ outcome (set-cell-call self cell kind) ⌝ }
+        ensures answer { λ r. ⌜ answer-of-call (r .answer) ≡ outcome (set-cell-call self cell kind) ⌝ }
         ensures bench { λ r. ⌜ r .bench ≡ left-by (set-cell-call self cell kind) self ⌝ }
     {
         let number = refusals::set_cell(cell, kind);
@@ -188,7 +189,7 @@ impl Bench {
 
     // Opens code (q, k) with bits all 0. Refuses 3 bad q; 4 k not below q; 5 gain not 1 to 4095; 6 related to an open code.
     pub fn open(mut self, q: u32, k: u32, gain: u32) -> Answered
-        ensures answer { λ r. ⌜ told-call (r .answer) ≡ outcome (open-call self q k gain) ⌝ }
+        ensures answer { λ r. ⌜ answer-of-call (r .answer) ≡ outcome (open-call self q k gain) ⌝ }
         ensures bench { λ r. ⌜ r .bench ≡ left-by (open-call self q k gain) self ⌝ }
     {
         let s = self.settings;
@@ -210,7 +211,7 @@ impl Bench {
     // Replaces all open codes by those of the plan, with bits all 0, or changes nothing. Refuses 3, 4, 5, 6 as open would for the first
     // record that fails, taken in order against earlier records only, with that record's place.
     pub fn load_plan(mut self, plan: &[Channel]) -> Planned
-        ensures answer { λ r. ⌜ told-plan (r .answer) ≡ plan-outcome (load-plan-call self (now (plan .entry))) ⌝ }
+        ensures answer { λ r. ⌜ answer-of-plan (r .answer) ≡ plan-outcome (load-plan-call self (now (plan .entry))) ⌝ }
         ensures bench { λ r. ⌜ r .bench ≡ plan-left-by (load-plan-call self (now (plan .entry))) self ⌝ }
     {
         let mut taken = taken::none();
@@ -225,7 +226,7 @@ impl Bench {
     // Load plan of the first n records.
     fn load_first(self, plan: PlanRecords, n: usize) -> Planned
         requires { ⌜ n ≤ 17 ⌝ }
-        ensures answer { λ r. ⌜ told-plan (r .answer) ≡ plan-outcome (load-plan-call self (take n (plan .records))) ⌝ }
+        ensures answer { λ r. ⌜ answer-of-plan (r .answer) ≡ plan-outcome (load-plan-call self (take n (plan .records))) ⌝ }
         ensures bench { λ r. ⌜ r .bench ≡ plan-left-by (load-plan-call self (take n (plan .records))) self ⌝ }
     {
         let records = plan.records;
@@ -234,7 +235,7 @@ impl Bench {
 
     // Load plan for callers that hold the records by value: of the first `count`, or of all 17 where `count` is larger.
     pub fn load_records(self, plan: PlanRecords, count: usize) -> Planned
-        ensures answer { λ r. ⌜ told-plan (r .answer) ≡ plan-outcome (load-plan-call self (take count (plan .records))) ⌝ }
+        ensures answer { λ r. ⌜ answer-of-plan (r .answer) ≡ plan-outcome (load-plan-call self (take count (plan .records))) ⌝ }
         ensures bench { λ r. ⌜ r .bench ≡ plan-left-by (load-plan-call self (take count (plan .records))) self ⌝ }
     {
         self.load_first(plan, field::smaller(count, 17))
@@ -242,7 +243,7 @@ impl Bench {
 
     // Refuses 3; 4; 7 code not open.
     pub fn close(mut self, q: u32, k: u32) -> Answered
-        ensures answer { λ r. ⌜ told-call (r .answer) ≡ outcome (close-call self q k) ⌝ }
+        ensures answer { λ r. ⌜ answer-of-call (r .answer) ≡ outcome (close-call self q k) ⌝ }
         ensures bench { λ r. ⌜ r .bench ≡ left-by (close-call self q k) self ⌝ }
     {
         let s = self.settings;
@@ -260,7 +261,7 @@ impl Bench {
 
     // Keeps the bits. Refuses 3; 4; 5; 7.
     pub fn set_gain(mut self, q: u32, k: u32, gain: u32) -> Answered
-        ensures answer { λ r. ⌜ told-call (r .answer) ≡ outcome (set-gain-call self q k gain) ⌝ }
+        ensures answer { λ r. ⌜ answer-of-call (r .answer) ≡ outcome (set-gain-call self q k gain) ⌝ }
         ensures bench { λ r. ⌜ r .bench ≡ left-by (set-gain-call self q k gain) self ⌝ }
     {
         let s = self.settings;
@@ -278,7 +279,7 @@ impl Bench {
 
     // One byte a bit. Refuses 3; 4; 7; 8 count not 2(F1+F2)/q, F1 and F2 being the field lengths; 9 a byte above 1.
     pub fn load_bits(mut self, q: u32, k: u32, bits: &[u8]) -> Answered
-        ensures answer { λ r. ⌜ told-call (r .answer) ≡ outcome (load-bits-call self q k (now (bits .entry))) ⌝ }
+        ensures answer { λ r. ⌜ answer-of-call (r .answer) ≡ outcome (load-bits-call self q k (now (bits .entry))) ⌝ }
         ensures bench { λ r. ⌜ r .bench ≡ left-by (load-bits-call self q k (now (bits .entry))) self ⌝ }
     {
         let s = self.settings;
@@ -297,7 +298,7 @@ impl Bench {
 
     // The group is the cell's. Refuses 13 type not 1; 14 case not 1 or 2; 15 frame not 1 or 2, half above 1, or half 1 in case 1; 5 either gain.
     pub fn set_sync(mut self, case: u32, frame: u32, half: u32, gp: u32, gs: u32) -> Answered
-        ensures answer { λ r. ⌜ told-call (r .answer) ≡ outcome (set-sync-call self case frame half gp gs) ⌝ }
+        ensures answer { λ r. ⌜ answer-of-call (r .answer) ≡ outcome (set-sync-call self case frame half gp gs) ⌝ }
         ensures bench { λ r. ⌜ r .bench ≡ left-by (set-sync-call self case frame half gp gs) self ⌝ }
     {
         let mut s = self.settings;
@@ -326,7 +327,7 @@ impl Bench {
 
     // Refuses nothing.
     pub fn clear_sync(mut self) -> Answered
-        ensures answer { λ r. ⌜ told-call (r .answer) ≡ outcome (clear-sync-call self) ⌝ }
+        ensures answer { λ r. ⌜ answer-of-call (r .answer) ≡ outcome (clear-sync-call self) ⌝ }
         ensures bench { λ r. ⌜ r .bench ≡ left-by (clear-sync-call self) self ⌝ }
     {
         let none = no_sync();
@@ -341,7 +342,7 @@ impl Bench {
 
     // Copies the settings: the slot that starts keeps them, whatever calls follow. Refuses 10 slot under way.
     pub fn start(mut self) -> Answered
-        ensures answer { λ r. ⌜ told-call (r .answer) ≡ outcome (start-call self) ⌝ }
+        ensures answer { λ r. ⌜ answer-of-call (r .answer) ≡ outcome (start-call self) ⌝ }
         ensures bench { λ r. ⌜ r .bench ≡ left-by (start-call self) self ⌝ }
     {
         if self.running != 0 {
@@ -363,7 +364,7 @@ impl Bench {
     // Writes the next chips of the slot under way, as many as the smaller of buffer length and chips left, and answers that count; later
     // entries stay, and after the last chip there is no slot. Refuses 11 no slot under way; 12 buffer lengths differ.
     pub fn draw(mut self, re: &mut [i32], im: &mut [i32]) -> Drawn
-        ensures answer { λ r. ⌜ told-draw (r .answer) ≡ counted (draw-call self (length (now (re .entry))) (length (now (im .entry)))) ⌝ }
+        ensures answer { λ r. ⌜ answer-of-draw (r .answer) ≡ counted (draw-call self (length (now (re .entry))) (length (now (im .entry)))) ⌝ }
         ensures bench { λ r. ⌜ r .bench ≡ after (draw-call self (length (now (re .entry))) (length (now (im .entry)))) self (λ d. d .bench) ⌝ }
         ensures real { λ r. ⌜ now (re .exit) ≡ after (draw-call self (length (now (re .entry))) (length (now (im .entry)))) (now (re .entry)) (λ d. written (d .chips .re) (now (re .entry))) ⌝ }
         ensures imaginary { λ r. ⌜ now (im .exit) ≡ after (draw-call self (length (now (re .entry))) (length (now (im .entry)))) (now (im .entry)) (λ d. written (d .chips .im) (now (im .entry))) ⌝ }

@@ -4,13 +4,13 @@ ghost use mathlib.Core.Bool.{not};
 ghost use mathlib.Core.Path.{_≡_};
 ghost use Prim.Native.Nat.{_<_};
 ghost use lib.Dec.{eqb};
-ghost use Rattle.codes.specs.Refusals.{number};
+ghost use Rattle.codes.specs.Refusals.{refusal-number};
 ghost use Rattle.slot.specs.declared.Settings.{Settings};
 ghost use Rattle.slot.specs.Slot.{bit-count};
 ghost use Rattle.slot.specs.Tables.{view};
-ghost use Rattle.tables.specs.Held.{clashes};
+ghost use Rattle.tables.specs.OpenCodes.{clashes};
 ghost use Rattle.bench.specs.BenchCalls.{bad-gain, close-refusals, draw-refusals, load-bits-refusals, open-refusals, set-cell-refusals, set-gain-refusals, set-sync-refusals, some-code};
-ghost use Rattle.bench.specs.Held.{code-refusals};
+ghost use Rattle.bench.specs.CodeRefusals.{code-refusals};
 use codes::CellParameter;
 use codes::burst;
 use codes::tree;
@@ -22,7 +22,7 @@ use tables::gains::any_of_five;
 use tables::gains::is_open;
 
 pub fn set_cell(cell: CellParameter, kind: u32) -> u32
-    ensures { λ r. ⌜ r ≡ number (set-cell-refusals (cell .0) kind) ⌝ }
+    ensures { λ r. ⌜ r ≡ refusal-number (set-cell-refusals (cell .0) kind) ⌝ }
 {
     if 128 <= cell.0 {
         return 1;
@@ -37,7 +37,7 @@ pub fn set_cell(cell: CellParameter, kind: u32) -> u32
 
 // 3 or 4 where (q, k) is no code, else 0.
 fn code(q: u32, k: u32) -> u32
-    ensures { λ r. ⌜ r ≡ number (code-refusals q k) ⌝ }
+    ensures { λ r. ⌜ r ≡ refusal-number (code-refusals q k) ⌝ }
 {
     if tree::width(q) == 0 {
         return 3;
@@ -69,7 +69,7 @@ fn is_related_to_open(gains: &[u16; 31], q: u32, k: u32) -> bool
 }
 
 pub fn open(gains: &[u16; 31], q: u32, k: u32, gain: u32) -> u32
-    ensures { λ r. ⌜ ((s : Settings) → s .gains ≡ now (gains .entry) → r ≡ number (open-refusals (view s) q k gain)) ⌝ }
+    ensures { λ r. ⌜ ((s : Settings) → s .gains ≡ now (gains .entry) → r ≡ refusal-number (open-refusals (view s) q k gain)) ⌝ }
 {
     let number = code(q, k);
     if number != 0 {
@@ -85,7 +85,7 @@ pub fn open(gains: &[u16; 31], q: u32, k: u32, gain: u32) -> u32
 }
 
 pub fn close(gains: &[u16; 31], q: u32, k: u32) -> u32
-    ensures { λ r. ⌜ ((s : Settings) → s .gains ≡ now (gains .entry) → r ≡ number (close-refusals (view s) q k)) ⌝ }
+    ensures { λ r. ⌜ ((s : Settings) → s .gains ≡ now (gains .entry) → r ≡ refusal-number (close-refusals (view s) q k)) ⌝ }
 {
     let number = code(q, k);
     if number != 0 {
@@ -98,7 +98,7 @@ pub fn close(gains: &[u16; 31], q: u32, k: u32) -> u32
 }
 
 pub fn set_gain(gains: &[u16; 31], q: u32, k: u32, gain: u32) -> u32
-    ensures { λ r. ⌜ ((s : Settings) → s .gains ≡ now (gains .entry) → r ≡ number (set-gain-refusals (view s) q k gain)) ⌝ }
+    ensures { λ r. ⌜ ((s : Settings) → s .gains ≡ now (gains .entry) → r ≡ refusal-number (set-gain-refusals (view s) q k gain)) ⌝ }
 {
     let number = code(q, k);
     if number != 0 {
@@ -123,7 +123,7 @@ fn bit_count(kind: u32, q: u32) -> usize
 }
 
 pub fn load_bits(gains: &[u16; 31], kind: u32, q: u32, k: u32, bits: &[u8]) -> u32
-    ensures { λ r. ⌜ ((s : Settings) → s .gains ≡ now (gains .entry) → s .kind ≡ kind → r ≡ number (load-bits-refusals (view s) q k (now (bits .entry)))) ⌝ }
+    ensures { λ r. ⌜ ((s : Settings) → s .gains ≡ now (gains .entry) → s .kind ≡ kind → r ≡ refusal-number (load-bits-refusals (view s) q k (now (bits .entry)))) ⌝ }
 {
     // 3, 4 and 7, as close has them.
     let number = close(gains, q, k);
@@ -140,7 +140,7 @@ pub fn load_bits(gains: &[u16; 31], kind: u32, q: u32, k: u32, bits: &[u8]) -> u
 }
 
 pub fn set_sync(s: Settings, case: u32, frame: u32, half: u32, gp: u32, gs: u32) -> u32
-    ensures { λ r. ⌜ r ≡ number (set-sync-refusals (view s) case frame half gp gs) ⌝ }
+    ensures { λ r. ⌜ r ≡ refusal-number (set-sync-refusals (view s) case frame half gp gs) ⌝ }
 {
     if s.kind != 1 {
         return 13;
@@ -148,7 +148,7 @@ pub fn set_sync(s: Settings, case: u32, frame: u32, half: u32, gp: u32, gs: u32)
     if !burst::one_or_two(case) {
         return 14;
     }
-    if !burst::is_frame_and_half(case, frame, half) {
+    if burst::is_bad_frame_or_half(case, frame, half) {
         return 15;
     }
     if is_bad_gain(gp) {
@@ -162,7 +162,7 @@ pub fn set_sync(s: Settings, case: u32, frame: u32, half: u32, gp: u32, gs: u32)
 
 // For buffers of m and n entries, where a slot is under way while `running` is not 0.
 pub fn draw(running: u8, m: usize, n: usize) -> u32
-    ensures { λ r. ⌜ r ≡ number (draw-refusals (not (eqb running 0)) m n) ⌝ }
+    ensures { λ r. ⌜ r ≡ refusal-number (draw-refusals (not (eqb running 0)) m n) ⌝ }
 {
     if running == 0 {
         return 11;

@@ -2,7 +2,7 @@
 ghost use mathlib.Core.Path.{_≡_};
 ghost use mathlib.Core.Bool.{cond};
 ghost use lib.Dec.{eqb};
-ghost use Rattle.bench.specs.BenchCalls.{loads, plan-left-by, plan-outcome, refused-at, told-plan};
+ghost use Rattle.bench.specs.BenchCalls.{loads, plan-left-by, plan-outcome, refused-at, answer-of-plan};
 ghost use Rattle.bench.specs.Taken.{none-taken, settled, with-record};
 use crate::Bench;
 use crate::Channel;
@@ -33,7 +33,7 @@ pub fn none() -> Taken
 
 // The answer to a plan whose records left this number and place.
 fn answer(number: u32, place: usize) -> PlanAnswer
-    ensures { λ r. ⌜ told-plan r ≡ cond (eqb number 0) (loads tt) (refused-at number place) ⌝ }
+    ensures { λ r. ⌜ answer-of-plan r ≡ cond (eqb number 0) (loads tt) (refused-at number place) ⌝ }
 {
     match number {
         0 => PlanAnswer::Loaded,
@@ -68,7 +68,7 @@ impl Taken {
 
     // The answer to a plan of these records, with the bench that they make of `old`, or `old` where one failed.
     pub fn settled(self, old: Bench) -> Planned
-        ensures answer { λ r. ⌜ told-plan (r .answer) ≡ plan-outcome (settled old self) ⌝ }
+        ensures answer { λ r. ⌜ answer-of-plan (r .answer) ≡ plan-outcome (settled old self) ⌝ }
         ensures bench { λ r. ⌜ r .bench ≡ plan-left-by (settled old self) old ⌝ }
     {
         let s = old.settings;

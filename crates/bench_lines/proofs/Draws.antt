@@ -16,7 +16,7 @@ use Rattle.codes.specs.Refusals.{Answer, refused, gives, after}
 use Rattle.bench.specs.declared.Bench.{Bench}
 use Rattle.slot.specs.Slot.{chip}
 use Rattle.slot.specs.Tables.{view}
-use Rattle.bench.specs.BenchCalls.{Draw, counted, draw-call, moved-on, under-way}
+use Rattle.bench.specs.BenchCalls.{Draw, counted, draw-call, moved-on, is-running}
 
 -- the end of a part, and what follows the part
 part-then-rest : {A : Type 0} (k n : ℕ) (d : List A) → k ≤ n → drop k (take n d) ++ drop n d ≡ drop k d
@@ -27,8 +27,8 @@ part-then-rest (suc k) (suc n) (x ∷ xs) l = part-then-rest k n xs (le-of-suc-l
 
 -- what a draw that answers a ensures: what is told, and the bench and the two buffers that it leaves
 abbrev pub Drawn : Answer Draw → Bench → List ℤ → List ℤ → Answer ℕ → Bench → List ℤ → List ℤ → Type 0
-Drawn a b re im told left re′ im′ =
-    (told ≡ counted a)
+Drawn a b re im answer left re′ im′ =
+    (answer ≡ counted a)
     × ((left ≡ after a b (λ d. d .bench)) × ((re′ ≡ after a re (λ d. written (d .chips .re) re)) × (im′ ≡ after a im (λ d. written (d .chips .im) im))))
 
 -- a part of x entries that was left as it was, or written
@@ -39,14 +39,14 @@ filled : (x : ℕ) (d p : List ℤ) {new : List ℤ} → length p ≤ x → new 
 filled x d p l e = rw e (append-assoc p (drop (length p) (take x d)) (drop x d) ∙ ap (λ (r : List ℤ). p ++ r) (part-then-rest (length p) x d l))
 
 -- an accepted draw writes at most x and y chips
-abbrev Within : ℕ → ℕ → Answer Draw → Type 0
-Within x y (refused k) = Unit {0}
-Within x y (gives d) = (length (d .chips .re) ≤ x) × (length (d .chips .im) ≤ y)
+abbrev WritesAtMost : ℕ → ℕ → Answer Draw → Type 0
+WritesAtMost x y (refused k) = Unit {0}
+WritesAtMost x y (gives d) = (length (d .chips .re) ≤ x) × (length (d .chips .im) ≤ y)
 
-module _ (b : Bench) (re im : List ℤ) (x y : ℕ) {told : Answer ℕ} {left : Bench} {re′ im′ : List ℤ} where
+module _ (b : Bench) (re im : List ℤ) (x y : ℕ) {answer : Answer ℕ} {left : Bench} {re′ im′ : List ℤ} where
   -- parts of x and y entries were lent: the buffers are left as if they had been lent whole
-  lent : (a : Answer Draw) → Within x y a
-      → Drawn a b (take x re) (take y im) told left re′ im′ → Drawn a b re im told left (re′ ++ drop x re) (im′ ++ drop y im)
+  lent : (a : Answer Draw) → WritesAtMost x y a
+      → Drawn a b (take x re) (take y im) answer left re′ im′ → Drawn a b re im answer left (re′ ++ drop x re) (im′ ++ drop y im)
   lent (refused k) f (t, (l, (r, i))) = (t, (l, (kept x re r, kept y im i)))
   lent (gives d) f (t, (l, (r, i))) = (t, (l, (filled x re (d .chips .re) (f .0) r, filled y im (d .chips .im) (f .1) i)))
 
@@ -63,8 +63,8 @@ module _ (b : Bench) where
       least = omega arith
 
   -- an accepted draw has buffers of one length, and writes no more than that
-  within : (n m : ℕ) → Within n m (draw-call b n m)
-  within n m = go (under-way b) (eqb n m) refl
+  within : (n m : ℕ) → WritesAtMost n m (draw-call b n m)
+  within n m = go (is-running b) (eqb n m) refl
     where
       c : ℕ
       c = min n (2560 - b .position)
@@ -75,17 +75,17 @@ module _ (b : Bench) where
       d : Draw
       d = record { count = c; chips = in-buffers c f; bench = moved-on b c }
 
-      go : (t s : Bool) → eqb n m ≡ s → Within n m (cond (not t) (refused 11) (cond (not s) (refused 12) (gives d)))
+      go : (t s : Bool) → eqb n m ≡ s → WritesAtMost n m (cond (not t) (refused 11) (cond (not s) (refused 12) (gives d)))
       go false s e = tt
       go true false e = tt
       go true true e =
           let h = eqb-true n m e in (omega (arith, length-listed (λ i. f i .re) c), omega (arith, h, length-listed (λ i. f i .im) c))
 
   -- a draw into parts of x and y entries is one into buffers of n and m, where both are answered alike
-  pub relent : (n m x y : ℕ) (re im : List ℤ) {told : Answer ℕ} {left : Bench} {re′ im′ : List ℤ} → length (take x re) ≡ x → length (take y im) ≡ y
+  pub relent : (n m x y : ℕ) (re im : List ℤ) {answer : Answer ℕ} {left : Bench} {re′ im′ : List ℤ} → length (take x re) ≡ x → length (take y im) ≡ y
       → draw-call b x y ≡ draw-call b n m
-      → Drawn (draw-call b (length (take x re)) (length (take y im))) b (take x re) (take y im) told left re′ im′
-      → Drawn (draw-call b n m) b re im told left (re′ ++ drop x re) (im′ ++ drop y im)
-  relent n m x y re im {told} {left} {re′} {im′} g h e d =
-      subst (λ (a : Answer Draw). Drawn a b re im told left (re′ ++ drop x re) (im′ ++ drop y im)) e
-      (lent b re im x y (draw-call b x y) (within x y) (subst (λ (a : Answer Draw). Drawn a b (take x re) (take y im) told left re′ im′) (ap₂ (draw-call b) g h) d))
+      → Drawn (draw-call b (length (take x re)) (length (take y im))) b (take x re) (take y im) answer left re′ im′
+      → Drawn (draw-call b n m) b re im answer left (re′ ++ drop x re) (im′ ++ drop y im)
+  relent n m x y re im {answer} {left} {re′} {im′} g h e d =
+      subst (λ (a : Answer Draw). Drawn a b re im answer left (re′ ++ drop x re) (im′ ++ drop y im)) e
+      (lent b re im x y (draw-call b x y) (within x y) (subst (λ (a : Answer Draw). Drawn a b (take x re) (take y im) answer left re′ im′) (ap₂ (draw-call b) g h) d))

@@ -19,7 +19,7 @@ use Rattle.codes.specs.declared.ModulatedCode.{ModulatedCode}
 use Rattle.codes.specs.declared.Allocated.{Allocated}
 use Rattle.codes.specs.declared.burst.CodeSet.{CodeSet}
 use Rattle.codes.specs.SyncCodes.{is-sync-code}
-use Rattle.codes.specs.Allocation.{row, code-set, signed, case-1, case-2, one-or-two, is-frame-and-half, allocation, with-unit, silent}
+use Rattle.codes.specs.Allocation.{allocation-row, code-set, signed, case-1, case-2, one-or-two, bad-frame-or-half, allocation, with-unit, silent}
 use Rattle.codes.proofs.Tests.{each-at}
 use Rattle.codes.proofs.Rows.{minus-if-within}
 
@@ -37,8 +37,8 @@ none-small : Both 1 𝟎
 unfolding 𝟎
 none-small = record { re = record { size = lit≤ tt }; im = record { size = lit≤ tt } }
 
-pub unit-small : (n : ℕ) (s : CodeSet) → Both 1 (row n s .unit)
-unfolding row 𝟏 𝐣
+pub unit-small : (n : ℕ) (s : CodeSet) → Both 1 (allocation-row n s .unit)
+unfolding allocation-row 𝟏 𝐣
 unit-small zero s = record { re = record { size = lit≤ tt }; im = record { size = lit≤ tt } }
 unit-small (suc zero) s = record { re = record { size = lit≤ tt }; im = record { size = lit≤ tt } }
 unit-small (suc (suc zero)) s = record { re = record { size = lit≤ tt }; im = record { size = lit≤ tt } }
@@ -47,17 +47,17 @@ unit-small (suc (suc (suc (suc n)))) s = none-small
 
 known-row : ℕ → ℕ → Bool
 known-row k n =
-    let r = row n (code-set (1 + k)) in
+    let r = allocation-row n (code-set (1 + k)) in
     is-sync-code (r .first) && (is-sync-code (r .second) && is-sync-code (r .marker))
 
 rows-test : T (each 4 (λ k. each 4 (known-row k)))
-unfolding each known-row row code-set is-sync-code
+unfolding each known-row allocation-row code-set is-sync-code
 rows-test = tt
 
-signed-known : (k n : ℕ) → k < 4 → n < 4 → {s t m : ℤ} → Within 1 s → Within 1 t → Within 1 m → AllKnown (signed (row n (code-set (1 + k))) s t m)
+signed-known : (k n : ℕ) → k < 4 → n < 4 → {s t m : ℤ} → Within 1 s → Within 1 t → Within 1 m → AllKnown (signed (allocation-row n (code-set (1 + k))) s t m)
 unfolding known-row signed real
 signed-known k n h g {s} {t} {m} hs ht hm =
-    let r = row n (code-set (1 + k)) in
+    let r = allocation-row n (code-set (1 + k)) in
     let a = and-yes (is-sync-code (r .first)) _ (each-at 4 (known-row k) (each-at 4 (λ k. each 4 (known-row k)) rows-test k h) n g) in
     let b = and-yes (is-sync-code (r .second)) _ (a .1) in
     let u = unit-small n (code-set (1 + k)) in
@@ -76,7 +76,7 @@ silent-known = record { first = none; second = none; marker = none }
 
 pub allocation-known : (case g frame half : ℕ) → AllKnown (allocation case g frame half)
 unfolding allocation case-1 case-2
-allocation-known case g frame half = go (leb 32 g) refl (one-or-two case) (is-frame-and-half case frame half) (eqb case 1)
+allocation-known case g frame half = go (leb 32 g) refl (one-or-two case) (not (bad-frame-or-half case frame half)) (eqb case 1)
   where
     sign : (b : Bool) → Within 1 (minus-if b)
     sign b = minus-if-within b

@@ -6,7 +6,7 @@ use Prim.Native.Nat.{ℕ, _<_, _≤_}
 use native.Mathlib.Decide.{ℕ-discrete}
 use native.Mathlib.Omega.{arith}
 use borrow.Author.Tests.{ne-eqb}
-use Rattle.codes.specs.Held.{NoneOf}
+use Rattle.codes.specs.LastArm.{NoneOf}
 use Rattle.codes.specs.Tree.{among, spreading-factors, is-spreading-factor}
 
 -- a fact of each number of a list is one of any number among them

@@ -11,8 +11,8 @@ use lib.Dec.{T, eqb, eqb→eq, leb, leb→le, lit≤, ltb, ltb→lt}
 use lib.IntN.{pos, natAbs}
 use lib.ListN.{getD, length, List·getD-eq-default}
 use Rattle.complex.specs.Fits.{Within}
-use Rattle.codes.specs.Signs.{_at_}
-use Rattle.codes.specs.Held.{packed, sign-bit, leaf-rows}
+use Rattle.complex.specs.Buffers.{_at_}
+use Rattle.codes.specs.PackedSigns.{packed, sign-bit, leaf-rows}
 use Rattle.codes.specs.Tree.{spreading-factors, is-spreading-factor, is-code, code, element, at-or-above, related, width, overlap}
 use Rattle.codes.specs.Range.{each}
 use Rattle.codes.proofs.Tests.{agree, agree→eq, each-at, same, same→eq, T-true, among-below, all-below}

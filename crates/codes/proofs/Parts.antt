@@ -14,8 +14,9 @@ use lib.IntN.{ℤ, pos, _*ℤ_, zero-*ℤ}
 use lib.ListN.{List·getD-eq-default}
 use Rattle.complex.specs.Arithmetic.{_+j_, real, _⊗_}
 use Rattle.complex.specs.Fits.{Within}
-use Rattle.codes.specs.Signs.{_at_, minus-if}
-use Rattle.codes.specs.Held.{sign-bit, secondary-row}
+use Rattle.complex.specs.Buffers.{_at_}
+use Rattle.codes.specs.Signs.{minus-if}
+use Rattle.codes.specs.PackedSigns.{sign-bit, secondary-row}
 use Rattle.codes.specs.Range.{each}
 use Rattle.codes.specs.SyncCodes.{a, a-signs, b, b-signs, repeated, Cp, z, hadamard, hadamard-part, is-sync-code, sync-codes, C}
 use Rattle.codes.proofs.Tests.{each-at, same, same→eq, T-true, all-below, among-below}
@@ -94,7 +95,7 @@ kept : ℕ → ℕ → Bool
 kept i m = same (sign-bit (secondary-row i) m) (b-signs at m *ℤ minus-if (eqb (ones (bitAnd i m) % 2) 1))
 
 kept-test : T (each 16 (λ i. each 16 (kept i)))
-unfolding each kept same sign-bit secondary-row ones onesIn _at_
+unfolding each kept same sign-bit secondary-row ones onesIn _at_ hadamard
 kept-test = tt
 
 pub secondary-signs : (i m : ℕ) → i < 16 → m < 16 → sign-bit (secondary-row i) m ≡ b-signs at m *ℤ hadamard-part i m

@@ -13,10 +13,11 @@ use lib.IntN.{ℤ, pos}
 use lib.ListN.{length, List·getD-eq-default}
 use Rattle.complex.specs.Fits.{Within, Both}
 use Rattle.complex.proofs.Components.{both-j^, real-both}
-use Rattle.codes.specs.Signs.{_at_, minus-if}
-use Rattle.codes.specs.Held.{packed, sign-bit}
+use Rattle.complex.specs.Buffers.{_at_}
+use Rattle.codes.specs.Signs.{minus-if}
+use Rattle.codes.specs.PackedSigns.{packed, sign-bit}
 use Rattle.codes.specs.AnnexA.{annex-A}
-use Rattle.codes.specs.Scrambling.{row, v, scrambling}
+use Rattle.codes.specs.Scrambling.{annex-row, v, scrambling}
 use Rattle.codes.specs.Tree.{code}
 use Rattle.codes.specs.Range.{each}
 use Rattle.codes.specs.SyncCodes.{a, a-signs, b, b-signs}
@@ -63,27 +64,27 @@ pub row-within : (l : List ℤ) → T (reads-back l) → (i : ℕ) → Within 1 
 row-within l t i = subst (Within 1) (read-back l t i) (sign-within (packed l) i)
 
 -- the rows of Annex A
-annex-test : T (each 128 (λ p. reads-back (row p)))
+annex-test : T (each 128 (λ p. reads-back (annex-row p)))
 unfolding reads-back each same sign-bit _at_
 annex-test = tt
 
-pub annex-read-back : (p : ℕ) → p < 128 → (i : ℕ) → sign-bit (packed (row p)) i ≡ row p at i
-annex-read-back p h = read-back (row p) (each-at 128 (λ p. reads-back (row p)) annex-test p h)
+pub annex-read-back : (p : ℕ) → p < 128 → (i : ℕ) → sign-bit (packed (annex-row p)) i ≡ annex-row p at i
+annex-read-back p h = read-back (annex-row p) (each-at 128 (λ p. reads-back (annex-row p)) annex-test p h)
 
-pub v-at : (p i : ℕ) → v p (i + 1) ≡ row p at i
+pub v-at : (p i : ℕ) → v p (i + 1) ≡ annex-row p at i
 unfolding v _at_
 v-at p i = rw (add-one i)
 
-pub no-row-at : (p i : ℕ) → 128 ≤ p → row p at i ≡ pos 0
+pub no-row-at : (p i : ℕ) → 128 ≤ p → annex-row p at i ≡ pos 0
 unfolding _at_
 no-row-at p i h = rw (List·getD-eq-default annex-A "" {n = p} h)
 
 pub v-within : (p i : ℕ) → Within 1 (v p (i + 1))
 v-within p i = subst (Within 1) (sym (v-at p i)) (go (decLe 128 p))
   where
-    go : Dec (128 ≤ p) → Within 1 (row p at i)
+    go : Dec (128 ≤ p) → Within 1 (annex-row p at i)
     go (yes g) = subst (Within 1) (sym (no-row-at p i g)) (record { size = lit≤ tt })
-    go (no g) = row-within (row p) (each-at 128 (λ p. reads-back (row p)) annex-test p (lt-of-not-le g)) i
+    go (no g) = row-within (annex-row p) (each-at 128 (λ p. reads-back (annex-row p)) annex-test p (lt-of-not-le g)) i
 
 pub scrambling-both : (p i : ℕ) → Both 1 (scrambling p (i + 1))
 unfolding scrambling

@@ -10,8 +10,8 @@ use borrow.Author.Tests.{eq-eqb, ne-eqb}
 use lib.Dec.{T, eqb, eqb→eq, ltb, ltb→lt}
 use mir.Facts.{and-yes}
 use lib.IntN.{ℤ, pos, negsuc}
-use Rattle.codes.specs.Range.{each, any}
-use Rattle.codes.specs.Held.{NoneOf-after, NoneOf, from}
+use Rattle.codes.specs.Range.{each, any, numbers-from}
+use Rattle.codes.specs.LastArm.{NoneOf-after, NoneOf}
 use Rattle.codes.specs.Tree.{among}
 
 both-left : (s t : Bool) → T (cond s t false) → T s
@@ -79,17 +79,17 @@ none-of-after A (k ∷ ks) x h =
 pub none-of : (ks : List ℕ) (x : ℕ) → NoneOf ks x → among x ks ≡ false
 none-of ks x h = none-of-after (Unit {0}) ks x h .1
 
-past-from : (k n x : ℕ) → k ≤ x → among x (from k n) ≡ false → k + n ≤ x
+past-from : (k n x : ℕ) → k ≤ x → among x (numbers-from k n) ≡ false → k + n ≤ x
 past-from k zero x h e = omega arith
 past-from k (suc n) x h e = go (ℕ-discrete x k) (past-from (suc k) n x)
   where
-    go : Dec (x ≡ k) → (suc k ≤ x → among x (from (suc k) n) ≡ false → suc k + n ≤ x) → k + suc n ≤ x
+    go : Dec (x ≡ k) → (suc k ≤ x → among x (numbers-from (suc k) n) ≡ false → suc k + n ≤ x) → k + suc n ≤ x
     go (yes p) r = let z : true ≡ false = sym (rw (eq-eqb x k p)) ∙ e in absurd (subst T z tt)
     go (no p) r = let g : suc k + n ≤ x = r (omega arith) (rw (ne-eqb x k p) at e) in omega arith
 
 -- the last arm after the arms 0, 1, .., n - 1
-pub none-below : (n x : ℕ) → NoneOf (from 0 n) x → n ≤ x
-none-below n x h = let r : 0 + n ≤ x = past-from 0 n x (omega arith) (none-of (from 0 n) x h) in omega arith
+pub none-below : (n x : ℕ) → NoneOf (numbers-from 0 n) x → n ≤ x
+none-below n x h = let r : 0 + n ≤ x = past-from 0 n x (omega arith) (none-of (numbers-from 0 n) x h) in omega arith
 
 -- ---- a number that is one of a list's
 pub T-true : (t : Bool) → T t → t ≡ true

@@ -2,8 +2,8 @@
 use lib.IntN.{ℤ, _*ℤ_}
 use Prim.Native.Nat.{ℕ, _+_, _/_, _%_}
 use mathlib.Core.List.{[], _∷_}
-use mathlib.Core.Bool.{Bool, _&&_, cond, not}
-use lib.Dec.{eqb, leb}
+use mathlib.Core.Bool.{Bool, _&&_, _||_, cond, not}
+use lib.Dec.{eqb, leb, ltb}
 use lib.ListN.{getD}
 use Rattle.complex.specs.declared.Complex.{Complex}
 use Rattle.complex.specs.Arithmetic.{real, 𝟎, 𝟏, 𝐣, _⊗_}
@@ -12,7 +12,7 @@ use Rattle.codes.specs.Tree.{among}
 use Rattle.codes.specs.declared.ModulatedCode.{ModulatedCode}
 use Rattle.codes.specs.declared.Allocated.{Allocated}
 use Rattle.codes.specs.declared.burst.CodeSet.{CodeSet}
-use Rattle.codes.specs.declared.burst.Row.{Row}
+use Rattle.codes.specs.declared.burst.AllocationRow.{AllocationRow}
 
 -- Code sets (A, B, D): 1 is (1, 3, 5), 2 is (10, 13, 14), 3 is (0, 6, 12), 4 is (4, 8, 15); there is no other.
 abbrev pub set-of : ℕ → ℕ → ℕ → CodeSet
@@ -22,8 +22,8 @@ unfoldable pub code-set : ℕ → CodeSet
 code-set n = getD (set-of 0 0 0 ∷ set-of 1 3 5 ∷ set-of 10 13 14 ∷ set-of 0 6 12 ∷ set-of 4 8 15 ∷ []) n (set-of 0 0 0)
 
 -- Row 0 gives pair (A, B) with unit 1 and marker D; 1 gives (A, B) with j and D; 2 gives (A, D) with j and B; 3 gives (B, D) with j and A.
-unfoldable pub row : ℕ → CodeSet → Row
-row n s =
+unfoldable pub allocation-row : ℕ → CodeSet → AllocationRow
+allocation-row n s =
     getD (
     record { first = s .a; second = s .b; unit = 𝟏; marker = s .d } ∷
     record { first = s .a; second = s .b; unit = 𝐣; marker = s .d } ∷
@@ -35,7 +35,7 @@ abbrev pub with-unit : ℕ → Complex → ModulatedCode
 with-unit i u = record { code = i; unit = u }
 
 -- a row's three codes, each with its unit, for the signs of the pair and of the marker
-unfoldable pub signed : Row → ℤ → ℤ → ℤ → Allocated
+unfoldable pub signed : AllocationRow → ℤ → ℤ → ℤ → Allocated
 signed r s t m =
     record {
       first = with-unit (r .first) (real s ⊗ r .unit);
@@ -48,7 +48,7 @@ signed r s t m =
 unfoldable pub case-1 : ℕ → ℕ → Allocated
 case-1 g frame =
     let r = g % 16 in
-    signed (row (r / 4) (code-set (1 + g / 16)))
+    signed (allocation-row (r / 4) (code-set (1 + g / 16)))
     (minus-if (among (r % 4) (2 ∷ 3 ∷ []))) (minus-if (among (r % 4) (1 ∷ 3 ∷ []))) (minus-if (eqb frame 2))
 
 -- Case 2: set 1 + g div 8, r = g mod 8, rows by r div 2 as above. The pair is ++ for even r, +- for odd r, both negated in frame 2.
@@ -57,15 +57,15 @@ unfoldable pub case-2 : ℕ → ℕ → ℕ → Allocated
 case-2 g frame half =
     let r = g % 8 in
     let f = minus-if (eqb frame 2) in
-    signed (row (r / 2) (code-set (1 + g / 8)))
+    signed (allocation-row (r / 2) (code-set (1 + g / 8)))
     f (f *ℤ minus-if (eqb (r % 2) 1)) (minus-if (eqb half 1))
 
 unfoldable pub one-or-two : ℕ → Bool
 one-or-two n = among n (1 ∷ 2 ∷ [])
 
--- where refusal 15, "frame not 1 or 2, half above 1, or half 1 in case 1", is not given
-unfoldable pub is-frame-and-half : ℕ → ℕ → ℕ → Bool
-is-frame-and-half case frame half = one-or-two frame && not (leb 2 half) && not (eqb half 1 && eqb case 1)
+-- "frame not 1 or 2, half above 1, or half 1 in case 1": a case and such a frame and half are refused 15
+unfoldable pub bad-frame-or-half : ℕ → ℕ → ℕ → Bool
+bad-frame-or-half case frame half = not (one-or-two frame) || ltb 1 half || (eqb half 1 && eqb case 1)
 
 -- no code: what an allocation outside its range gives
 abbrev pub silent : Allocated
@@ -73,5 +73,5 @@ silent = record { first = with-unit 0 𝟎; second = with-unit 0 𝟎; marker = 
 
 unfoldable pub allocation : ℕ → ℕ → ℕ → ℕ → Allocated
 allocation case g frame half =
-    cond (not (leb 32 g) && one-or-two case && is-frame-and-half case frame half)
+    cond (not (leb 32 g) && one-or-two case && not (bad-frame-or-half case frame half))
     (cond (eqb case 1) (case-1 g frame) (case-2 g frame half)) silent

@@ -24,7 +24,7 @@ use Rattle.codes.specs.declared.AllocationAnswer.the-variants.{Codes, Re
 use Rattle.codes.specs.declared.StartAnswer.{StartAnswer}
 use Rattle.codes.specs.declared.StartAnswer.the-variants.{Start, Refused as NoStart}
 use Rattle.codes.specs.SyncCodes.{Cp, C, is-sync-code}
-use Rattle.codes.specs.Allocation.{allocation, one-or-two, is-frame-and-half}
+use Rattle.codes.specs.Allocation.{allocation, one-or-two, bad-frame-or-half}
 use Rattle.codes.specs.Burst.{burst-start}
 
 -- element of a channelisation code
@@ -55,7 +55,7 @@ secondary-call i chip = 16 if not (is-sync-code i) ∷ 16 if leb 256 chip ∷ []
 -- allocation: three code numbers, each with its unit
 abbrev pub allocation-call : ℕ → ℕ → ℕ → ℕ → Answer Allocated
 allocation-call case g frame half =
-    1 if leb 32 g ∷ 14 if not (one-or-two case) ∷ 15 if not (is-frame-and-half case frame half) ∷ []
+    1 if leb 32 g ∷ 14 if not (one-or-two case) ∷ 15 if bad-frame-or-half case frame half ∷ []
     otherwise allocation case g frame half
 
 -- burst start
@@ -63,26 +63,26 @@ abbrev pub burst-start-call : ℕ → Answer ℕ
 burst-start-call g = 1 if leb 32 g ∷ [] otherwise burst-start g
 
 -- ---- document 01's number and values for each case of the calls' answers
-abbrev pub told-element : ElementAnswer → Answer ℤ
-told-element (Element s) = gives s
-told-element (NoElement n) = refused n
+abbrev pub answer-of-element : ElementAnswer → Answer ℤ
+answer-of-element (Element s) = gives s
+answer-of-element (NoElement n) = refused n
 
-abbrev pub told-related : RelatedAnswer → Answer Bool
-told-related (Related t) = gives t
-told-related (NoRelated n) = refused n
+abbrev pub answer-of-related : RelatedAnswer → Answer Bool
+answer-of-related (Related t) = gives t
+answer-of-related (NoRelated n) = refused n
 
-abbrev pub told-group : GroupAnswer → Answer ℕ
-told-group (Group g) = gives (g .0)
-told-group (NoGroup n) = refused n
+abbrev pub answer-of-group : GroupAnswer → Answer ℕ
+answer-of-group (Group g) = gives (g .0)
+answer-of-group (NoGroup n) = refused n
 
-abbrev pub told-chip : ChipAnswer → Answer Complex
-told-chip (Chip x) = gives x
-told-chip (NoChip n) = refused n
+abbrev pub answer-of-chip : ChipAnswer → Answer Complex
+answer-of-chip (Chip x) = gives x
+answer-of-chip (NoChip n) = refused n
 
-abbrev pub told-allocation : AllocationAnswer → Answer Allocated
-told-allocation (Codes s) = gives s
-told-allocation (NoAllocation n) = refused n
+abbrev pub answer-of-allocation : AllocationAnswer → Answer Allocated
+answer-of-allocation (Codes s) = gives s
+answer-of-allocation (NoAllocation n) = refused n
 
-abbrev pub told-start : StartAnswer → Answer ℕ
-told-start (Start n) = gives n
-told-start (NoStart n) = refused n
+abbrev pub answer-of-start : StartAnswer → Answer ℕ
+answer-of-start (Start n) = gives n
+answer-of-start (NoStart n) = refused n

@@ -8,4 +8,5 @@ pub mod Allocation
 pub mod Burst
 pub mod Refusals
 pub mod Calls
-pub mod Held
+pub mod PackedSigns
+pub mod LastArm

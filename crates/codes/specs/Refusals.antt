@@ -41,6 +41,6 @@ refusal-of (gives a) = 0
 
 -- ---- what only the code needs
 -- the number of the first refusal whose condition holds; 0, which is no refusal's, where none does
-abbrev pub number : List Refusal → ℕ
-number [] = 0
-number (r ∷ rs) = cond (r .condition) (r .number) (number rs)
+abbrev pub refusal-number : List Refusal → ℕ
+refusal-number [] = 0
+refusal-number (r ∷ rs) = cond (r .condition) (r .number) (refusal-number rs)

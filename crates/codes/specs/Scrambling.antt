@@ -5,16 +5,17 @@ use mathlib.Core.List.{List, _∷_}
 use lib.ListN.{getD}
 use Rattle.complex.specs.declared.Complex.{Complex}
 use Rattle.complex.specs.Arithmetic.{real, _⊗_, j^}
-use Rattle.codes.specs.Signs.{signs, _at_}
+use Rattle.complex.specs.Buffers.{_at_}
+use Rattle.codes.specs.Signs.{signs}
 use Rattle.codes.specs.AnnexA.{annex-A}
 
 -- Scrambling code p, for cell parameter p from 0 to 127, is row p of Annex A, v1 to v16; empty for any other p.
-abbrev pub row : ℕ → List ℤ
-row p = signs (getD annex-A p "")
+abbrev pub annex-row : ℕ → List ℤ
+annex-row p = signs (getD annex-A p "")
 
 -- vi, i from 1; 0 for i 0
 unfoldable pub v : ℕ → ℕ → ℤ
-v p i = (pos 0 ∷ row p) at i
+v p i = (pos 0 ∷ annex-row p) at i
 
 -- Its complex element i is j^i times vi, i from 1.
 unfoldable pub scrambling : ℕ → ℕ → Complex

@@ -1,12 +1,10 @@
 -- Rows of signs: lists of 1 and -1.
 use lib.IntN.{ℤ, pos, negsuc}
-use Prim.Native.Nat.{ℕ}
 use Prim.Native.Char.{Char, code}
 use Prim.Native.String.{String, [] as ε, _∷_ as _▸_}
 use mathlib.Core.List.{List, [], _∷_}
 use mathlib.Core.Bool.{Bool, cond}
 use lib.Dec.{eqb}
-use lib.ListN.{getD}
 
 -- '+', whose code is 43, is 1; any other character is -1
 abbrev pub sign : Char → ℤ
@@ -16,11 +14,6 @@ sign c = cond (eqb (code c) 43) (pos 1) (negsuc 0)
 abbrev pub signs : String → List ℤ
 signs ε = []
 signs (c ▸ s) = sign c ∷ signs s
-
--- element n of a row, from 0; 0 past its end
-infixl 8 _at_
-unfoldable pub _at_ : List ℤ → ℕ → ℤ
-l at n = getD l n (pos 0)
 
 -- -1 where the test holds, else 1
 abbrev pub minus-if : Bool → ℤ

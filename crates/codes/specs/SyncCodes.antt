@@ -9,7 +9,8 @@ use lib.Dec.{eqb, ltb}
 use lib.ListN.{take, drop}
 use Rattle.complex.specs.declared.Complex.{Complex}
 use Rattle.complex.specs.Arithmetic.{_+j_, real, 𝟎, _⊗_}
-use Rattle.codes.specs.Signs.{signs, _at_, minus-if}
+use Rattle.complex.specs.Buffers.{_at_}
+use Rattle.codes.specs.Signs.{signs, minus-if}
 use Rattle.codes.specs.Tree.{among}
 
 -- a = 1 1 1 1 1 1 -1 -1 1 -1 1 -1 1 -1 -1 1.

@@ -4,7 +4,7 @@ use Prim.Native.Nat.{ℕ, zero, suc, _+_, _*_, _-_, _/_, _%_}
 use mathlib.Core.List.{List, [], _∷_, _++_, map}
 use mathlib.Core.Bool.{Bool, true, false, _&&_, _||_, cond}
 use lib.Dec.{eqb, leb, ltb}
-use Rattle.codes.specs.Signs.{_at_}
+use Rattle.complex.specs.Buffers.{_at_}
 
 -- n stands in the list
 abbrev pub among : ℕ → List ℕ → Bool
@@ -18,12 +18,20 @@ spreading-factors = 1 ∷ 2 ∷ 4 ∷ 8 ∷ 16 ∷ []
 abbrev pub is-spreading-factor : ℕ → Bool
 is-spreading-factor Q = among Q spreading-factors
 
+-- what f gives for each of the five, joined to x by an operation: x + f 1 + f 2 + f 4 + f 8 + f 16 where it is +
+abbrev pub over-factors : {A : Type 0} → (A → A → A) → A → (ℕ → A) → A
+over-factors {A} join x f = after x spreading-factors
+  where
+    after : A → List ℕ → A
+    after x [] = x
+    after x (Q ∷ Qs) = after (join x (f Q)) Qs
+
 abbrev pub is-code : ℕ → ℕ → Bool
 is-code Q k = is-spreading-factor Q && ltb k Q
 
--- the level of a spreading factor in the tree: Q is 2 to the power of its level
+-- the level of a spreading factor in the tree, which is how many factors are smaller: Q is 2 to the power of its level
 abbrev pub level : ℕ → ℕ
-level Q = cond (eqb Q 1) 0 (cond (eqb Q 2) 1 (cond (eqb Q 4) 2 (cond (eqb Q 8) 3 4)))
+level Q = over-factors _+_ 0 (λ q. cond (ltb q Q) 1 0)
 
 -- Code (1, 0) is 1. Code (2Q, 2k) is code (Q, k) twice; code (2Q, 2k+1) is code (Q, k) followed by its negative.
 abbrev pub code-at-level : ℕ → ℕ → List ℤ

@@ -6,7 +6,7 @@ ghost use lib.Dec.{leb};
 ghost use Rattle.complex.specs.Arithmetic.{real, _⊗_};
 ghost use Rattle.complex.specs.Fits.{Both};
 ghost use Rattle.codes.specs.Signs.{minus-if};
-ghost use Rattle.codes.specs.Allocation.{allocation, case-1, case-2, code-set, is-frame-and-half, one-or-two, row as row-of, signed, silent};
+ghost use Rattle.codes.specs.Allocation.{allocation, bad-frame-or-half, case-1, case-2, code-set, one-or-two, allocation-row, signed, silent};
 ghost use Rattle.codes.specs.Burst.{burst-start};
 use crate::Allocated;
 use crate::CodeGroup;
@@ -24,17 +24,17 @@ pub fn one_or_two(n: u32) -> bool
     }
 }
 
-// Frame 1 or 2, half 0 or 1, and half 0 alone in case 1.
-pub fn is_frame_and_half(case: u32, frame: u32, half: u32) -> bool
-    ensures { λ r. ⌜ r ≡ is-frame-and-half case frame half ⌝ }
+// Whether the frame is not 1 or 2, the half above 1, or the half 1 in case 1.
+pub fn is_bad_frame_or_half(case: u32, frame: u32, half: u32) -> bool
+    ensures { λ r. ⌜ r ≡ bad-frame-or-half case frame half ⌝ }
 {
     if !one_or_two(frame) {
-        return false;
+        return true;
     }
-    if 2 <= half {
-        return false;
+    if 1 < half {
+        return true;
     }
-    if half == 1 { case != 1 } else { true }
+    if half == 1 { case == 1 } else { false }
 }
 
 // A code set (A, B, D).
@@ -70,7 +70,7 @@ fn with_sign(u: Complex, negative: bool) -> Complex
 }
 
 // A row of the allocation table for a code set: a pair of codes with the unit of both, and the marker's code.
-pub struct Row {
+pub struct AllocationRow {
     pub first: u32,
     pub second: u32,
     pub unit: Complex,
@@ -78,38 +78,38 @@ pub struct Row {
 }
 
 // Row n of the four; codes 0 with unit 0 for any other number.
-pub fn row_of(n: u32, set: CodeSet) -> Row
-    ensures { λ r. ⌜ r ≡ row-of n set ⌝ }
+pub fn row_of(n: u32, set: CodeSet) -> AllocationRow
+    ensures { λ r. ⌜ r ≡ allocation-row n set ⌝ }
 {
     let zero = Complex { re: 0, im: 0 };
     let one = Complex { re: 1, im: 0 };
     let j = Complex { re: 0, im: 1 };
     match n {
-        0 => Row {
+        0 => AllocationRow {
             first: set.a,
             second: set.b,
             unit: one,
             marker: set.d,
         },
-        1 => Row {
+        1 => AllocationRow {
             first: set.a,
             second: set.b,
             unit: j,
             marker: set.d,
         },
-        2 => Row {
+        2 => AllocationRow {
             first: set.a,
             second: set.d,
             unit: j,
             marker: set.b,
         },
-        3 => Row {
+        3 => AllocationRow {
             first: set.b,
             second: set.d,
             unit: j,
             marker: set.a,
         },
-        _ => Row {
+        _ => AllocationRow {
             first: 0,
             second: 0,
             unit: zero,
@@ -119,7 +119,7 @@ pub fn row_of(n: u32, set: CodeSet) -> Row
 }
 
 // A row's three codes, each with its unit; the flags say which of the pair and whether the marker is negative.
-fn arranged(r: Row, first: bool, second: bool, marker: bool) -> Allocated
+fn arranged(r: AllocationRow, first: bool, second: bool, marker: bool) -> Allocated
     requires { ⌜ Both 1 (r .unit) ⌝ }
     ensures { λ a. ⌜ a ≡ signed r (minus-if first) (minus-if second) (minus-if marker) ⌝ }
 {
@@ -175,7 +175,7 @@ pub fn allocated(case: u32, group: CodeGroup, frame: u32, half: u32) -> Allocate
     if 32 <= group.0 {
         return silent();
     }
-    if !is_frame_and_half(case, frame, half) {
+    if is_bad_frame_or_half(case, frame, half) {
         return silent();
     }
     match case {

@@ -1,9 +1,10 @@
 // The code rules of TS 25.223 V3.3.0 as a unit of their own: channelisation codes, scrambling codes, sync codes, which of
 // them a code group sends, and where its burst starts. The eight calls take any numbers and refuse by document 01's number.
-// The modules hold the functions that the crates above call for each chip or block: they are total, and give 0 outside
-// their range (`group_of`: p div 4); `signed_by_j` alone asks something, for a number of at most 1 in size.
+// The modules hold the functions that the crates above call for each chip or block. They refuse nothing and have an answer
+// for every number (docs/DECISIONS.md has a table of those outside their range); `scrambling::signed_by_j` alone asks
+// something, for a number of at most 1 in size.
 ghost use mathlib.Core.Path.{_≡_};
-ghost use Rattle.codes.specs.Calls.{element-call, related-call, code-group-call, scrambling-call, told-element, told-related, told-group, told-chip, primary-call, secondary-call, allocation-call, burst-start-call, told-allocation, told-start};
+ghost use Rattle.codes.specs.Calls.{element-call, related-call, code-group-call, scrambling-call, answer-of-element, answer-of-related, answer-of-group, answer-of-chip, primary-call, secondary-call, allocation-call, burst-start-call, answer-of-allocation, answer-of-start};
 use complex::Complex;
 
 pub mod burst;
@@ -65,7 +66,7 @@ pub enum StartAnswer {
 
 // Element `chip`, from 0, of channelisation code (q, k): 1 or -1. Refuses 3 bad q; 4 k not below q; 16 chip past the end.
 pub fn element(q: u32, k: u32, chip: u32) -> ElementAnswer
-    ensures { λ r. ⌜ told-element r ≡ element-call q k chip ⌝ }
+    ensures { λ r. ⌜ answer-of-element r ≡ element-call q k chip ⌝ }
 {
     if tree::width(q) == 0 {
         return ElementAnswer::Refused(3);
@@ -81,7 +82,7 @@ pub fn element(q: u32, k: u32, chip: u32) -> ElementAnswer
 
 // Whether codes (q1, k1) and (q2, k2) are related. Refuses 3 and 4 of the first, then 3 and 4 of the second.
 pub fn related(q1: u32, k1: u32, q2: u32, k2: u32) -> RelatedAnswer
-    ensures { λ r. ⌜ told-related r ≡ related-call q1 k1 q2 k2 ⌝ }
+    ensures { λ r. ⌜ answer-of-related r ≡ related-call q1 k1 q2 k2 ⌝ }
 {
     if tree::width(q1) == 0 {
         return RelatedAnswer::Refused(3);
@@ -100,7 +101,7 @@ pub fn related(q1: u32, k1: u32, q2: u32, k2: u32) -> RelatedAnswer
 
 // The code group of a cell parameter. Refuses 1 parameter above 127.
 pub fn code_group(p: CellParameter) -> GroupAnswer
-    ensures { λ r. ⌜ told-group r ≡ code-group-call (p .0) ⌝ }
+    ensures { λ r. ⌜ answer-of-group r ≡ code-group-call (p .0) ⌝ }
 {
     if 128 <= p.0 {
         return GroupAnswer::Refused(1);
@@ -110,7 +111,7 @@ pub fn code_group(p: CellParameter) -> GroupAnswer
 
 // Chip `chip`, from 0, of a cell parameter's scrambling code. Refuses 1 parameter above 127; 16 chip past the end.
 pub fn scrambling_chip(cell: CellParameter, chip: u32) -> ChipAnswer
-    ensures { λ r. ⌜ told-chip r ≡ scrambling-call (cell .0) chip ⌝ }
+    ensures { λ r. ⌜ answer-of-chip r ≡ scrambling-call (cell .0) chip ⌝ }
 {
     if 128 <= cell.0 {
         return ChipAnswer::Refused(1);
@@ -123,7 +124,7 @@ pub fn scrambling_chip(cell: CellParameter, chip: u32) -> ChipAnswer
 
 // Chip `chip`, from 0, of the primary sync code. Refuses 16 chip past the end.
 pub fn primary_chip(chip: u32) -> ChipAnswer
-    ensures { λ r. ⌜ told-chip r ≡ primary-call chip ⌝ }
+    ensures { λ r. ⌜ answer-of-chip r ≡ primary-call chip ⌝ }
 {
     if 256 <= chip {
         return ChipAnswer::Refused(16);
@@ -133,7 +134,7 @@ pub fn primary_chip(chip: u32) -> ChipAnswer
 
 // Chip `n`, from 0, of secondary sync code `number`. Refuses 16 for a number not listed or a chip past the end.
 pub fn secondary_chip(number: u32, n: u32) -> ChipAnswer
-    ensures { λ r. ⌜ told-chip r ≡ secondary-call number n ⌝ }
+    ensures { λ r. ⌜ answer-of-chip r ≡ secondary-call number n ⌝ }
 {
     if !sync::is_sync_code(number) {
         return ChipAnswer::Refused(16);
@@ -147,7 +148,7 @@ pub fn secondary_chip(number: u32, n: u32) -> ChipAnswer
 // The three codes that a group sends in a frame, 1 or 2, and a half, 0 for slot k and 1 for slot k+8.
 // Refuses 1 group above 31; 14 case not 1 or 2; 15 frame not 1 or 2, half above 1, or half 1 in case 1.
 pub fn allocation(case: u32, group: CodeGroup, frame: u32, half: u32) -> AllocationAnswer
-    ensures { λ r. ⌜ told-allocation r ≡ allocation-call case (group .0) frame half ⌝ }
+    ensures { λ r. ⌜ answer-of-allocation r ≡ allocation-call case (group .0) frame half ⌝ }
 {
     if 32 <= group.0 {
         return AllocationAnswer::Refused(1);
@@ -155,7 +156,7 @@ pub fn allocation(case: u32, group: CodeGroup, frame: u32, half: u32) -> Allocat
     if !burst::one_or_two(case) {
         return AllocationAnswer::Refused(14);
     }
-    if !burst::is_frame_and_half(case, frame, half) {
+    if burst::is_bad_frame_or_half(case, frame, half) {
         return AllocationAnswer::Refused(15);
     }
     AllocationAnswer::Codes(burst::allocated(case, group, frame, half))
@@ -163,7 +164,7 @@ pub fn allocation(case: u32, group: CodeGroup, frame: u32, half: u32) -> Allocat
 
 // The chip of the slot at which a group's burst starts. Refuses 1 group above 31.
 pub fn burst_start(g: CodeGroup) -> StartAnswer
-    ensures { λ r. ⌜ told-start r ≡ burst-start-call (g .0) ⌝ }
+    ensures { λ r. ⌜ answer-of-start r ≡ burst-start-call (g .0) ⌝ }
 {
     if 32 <= g.0 {
         return StartAnswer::Refused(1);

@@ -2,8 +2,10 @@
 ghost use mathlib.Core.Path.{_≡_};
 ghost use Prim.Native.Nat.{_+_};
 ghost use Rattle.complex.specs.Fits.{Within};
-ghost use Rattle.codes.specs.Held.{packed, NoneOf, from, signed-by-j};
-ghost use Rattle.codes.specs.Scrambling.{code-group, row, scrambling, v};
+ghost use Rattle.codes.specs.Range.{numbers-from};
+ghost use Rattle.codes.specs.PackedSigns.{packed, signed-by-j};
+ghost use Rattle.codes.specs.LastArm.{NoneOf};
+ghost use Rattle.codes.specs.Scrambling.{code-group, annex-row, scrambling, v};
 use crate::CellParameter;
 use crate::CodeGroup;
 use crate::signs::sign_at;
@@ -18,15 +20,15 @@ pub fn group_of(p: CellParameter) -> CodeGroup
 
 // What the last arm of `annex_row` gives: Annex A has 128 rows.
 fn no_row(p: u32) -> u32
-    requires { ⌜ NoneOf (from 0 128) p ⌝ }
-    ensures { λ r. ⌜ r ≡ packed (row p) ⌝ }
+    requires { ⌜ NoneOf (numbers-from 0 128) p ⌝ }
+    ensures { λ r. ⌜ r ≡ packed (annex-row p) ⌝ }
 {
     0
 }
 
-// Row p of Annex A, for cell parameter p.
+// Row p of Annex A, for cell parameter p; 0 above 127.
 pub fn annex_row(cell: CellParameter) -> u32
-    ensures { λ r. ⌜ r ≡ packed (row (cell .0)) ⌝ }
+    ensures { λ r. ⌜ r ≡ packed (annex-row (cell .0)) ⌝ }
 {
     let p = cell.0;
     match p {

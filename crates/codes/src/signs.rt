@@ -1,6 +1,6 @@
 // Rows of 16 signs, held as a binary number: the first sign first, 1 for 1 and 0 for -1.
 ghost use mathlib.Core.Path.{_≡_};
-ghost use Rattle.codes.specs.Held.{sign-bit};
+ghost use Rattle.codes.specs.PackedSigns.{sign-bit};
 
 // Element i, from 0, of a row; 0 past its end.
 pub fn sign_at(row: u32, i: u32) -> i32

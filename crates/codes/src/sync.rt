@@ -1,7 +1,9 @@
 // The primary and the secondary sync codes, whole and by their parts of 16 chips.
 ghost use mathlib.Core.Path.{_≡_};
-ghost use Rattle.codes.specs.Held.{packed, NoneOf, from, secondary-row};
-ghost use Rattle.codes.specs.Signs.{_at_};
+ghost use Rattle.codes.specs.Range.{numbers-from};
+ghost use Rattle.codes.specs.PackedSigns.{packed, secondary-row};
+ghost use Rattle.codes.specs.LastArm.{NoneOf};
+ghost use Rattle.complex.specs.Buffers.{_at_};
 ghost use Rattle.codes.specs.SyncCodes.{a, a-signs, b, b-signs, hadamard-part, is-sync-code, Cp, C};
 use crate::signs::sign_at;
 use complex::Complex;
@@ -21,7 +23,7 @@ pub fn a_repeat_row() -> u32
 }
 
 // The sequence b as a row of signs.
-pub fn b_row() -> u32
+fn b_row() -> u32
     ensures { λ r. ⌜ r ≡ packed b ⌝ }
 {
     0b1111110001010110
@@ -29,7 +31,7 @@ pub fn b_row() -> u32
 
 // What the last arm of `secondary_row` gives.
 fn no_secondary_row(i: u32) -> u32
-    requires { ⌜ NoneOf (from 0 16) i ⌝ }
+    requires { ⌜ NoneOf (numbers-from 0 16) i ⌝ }
     ensures { λ r. ⌜ r ≡ secondary-row i ⌝ }
 {
     0
@@ -82,14 +84,14 @@ pub fn b_sign(i: u32) -> i32
 }
 
 // The sign of part m of the sequence z, which is this sign times b; 0 past the sequence's end.
-pub fn b_repeat(m: u32) -> i32
+fn b_repeat(m: u32) -> i32
     ensures { λ r. ⌜ r ≡ b-signs at m ⌝ }
 {
     sign_at(0b1110110010100000, m)
 }
 
 // The sign of row 16i of the Hadamard matrix over its part m; 0 outside 16 by 16.
-pub fn hadamard_sign(i: u32, m: u32) -> i32
+fn hadamard_sign(i: u32, m: u32) -> i32
     ensures { λ r. ⌜ r ≡ hadamard-part i m ⌝ }
 {
     if 16 <= i {

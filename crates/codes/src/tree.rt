@@ -2,7 +2,9 @@
 ghost use mathlib.Core.Path.{_≡_};
 ghost use lib.ListN.{getD};
 ghost use Rattle.codes.specs.Tree.{element, related, width};
-ghost use Rattle.codes.specs.Held.{leaf-rows, NoneOf, from};
+ghost use Rattle.codes.specs.Range.{numbers-from};
+ghost use Rattle.codes.specs.PackedSigns.{leaf-rows};
+ghost use Rattle.codes.specs.LastArm.{NoneOf};
 use crate::signs::sign_at;
 
 // How many of the sixteen codes of Q 16 lie below a code of spreading factor q: 16/q, or 0 where q is no factor.
@@ -21,7 +23,7 @@ pub fn width(q: u32) -> u32
 
 // What the last arm of `leaf` gives: the tree has sixteen leaves.
 fn no_leaf(x: u32) -> u32
-    requires { ⌜ NoneOf (from 0 16) x ⌝ }
+    requires { ⌜ NoneOf (numbers-from 0 16) x ⌝ }
     ensures { λ r. ⌜ r ≡ getD leaf-rows x 0 ⌝ }
 {
     0

@@ -6,6 +6,11 @@ use lib.ListN.{getD, length, drop}
 use Rattle.complex.specs.declared.Complex.{Complex}
 use Rattle.complex.specs.Arithmetic.{_+j_}
 
+-- entry n of a list, from 0; 0 past its end
+infixl 8 _at_
+unfoldable pub _at_ : List ℤ → ℕ → ℤ
+l at n = getD l n (pos 0)
+
 -- value n of the two buffers, from 0; 0 past their end
 abbrev pub value : List ℤ → List ℤ → ℕ → Complex
 value re im n = getD re n (pos 0) +j getD im n (pos 0)

@@ -17,7 +17,7 @@ use Rattle.codes.specs.Burst.{secondaries}
 use Rattle.codes.proofs.Allocations.{Known, AllKnown}
 use Rattle.analyser_parts.specs.Correlation.{correlation, S, P}
 use Rattle.read_sync.specs.SyncReading.{share, total-share}
-use Rattle.demands.proofs.SyncOrthogonality.{sync-code, has-code, overlap, orthogonal}
+use Rattle.demands.proofs.SyncOrthogonality.{sync-code, has-code, equal-512, orthogonal}
 
 -- ---- a correlation is linear in the chips
 module _ (code : ℕ → Complex) where
@@ -54,16 +54,16 @@ agreement s t = heard s (t .first) +ℤ heard s (t .second) +ℤ heard s (t .mar
 arrange : (x y z u p q g : Complex) → ((g ⊗ (x ⊕ y ⊕ z)) ⊗ u) ⊗ (p ⊗ q) ≡ (g ⊗ (p ⊗ q)) ⊗ (x ⊗ u ⊕ y ⊗ u ⊕ z ⊗ u)
 arrange x y z u p q g = simp (⊗-⊕, ⊕-⊗, products)
 
-overlap-first : (u w v : Complex) → (u ⊗ w) ⊗ v ≡ w ⊗ (u ⊗ v)
-overlap-first u w v = simp products
+middle-first : (u w v : Complex) → (u ⊗ w) ⊗ v ≡ w ⊗ (u ⊗ v)
+middle-first u w v = simp products
 
 re-of : (u v : Complex) → (u ⊗ conj v) .re ≡ along u v
 unfolding _⊗_ conj along
 re-of u v = simp (*ℤ-negℤ, negℤ-negℤ)
 
-overlap-times : (c : Bool) (x : ℤ) → cond c (pos 512) (pos 0) *ℤ x ≡ pos 512 *ℤ cond c x (pos 0)
-overlap-times true x = refl
-overlap-times false x = zero-*ℤ x
+equal-512-times : (c : Bool) (x : ℤ) → cond c (pos 512) (pos 0) *ℤ x ≡ pos 512 *ℤ cond c x (pos 0)
+equal-512-times true x = refl
+equal-512-times false x = zero-*ℤ x
 
 gather : (k w x y z : ℤ) → k *ℤ (w *ℤ x +ℤ w *ℤ y +ℤ w *ℤ z) ≡ (k *ℤ w) *ℤ (x +ℤ y +ℤ z)
 gather k w x y z = simp ring
@@ -78,8 +78,8 @@ scale gP gS = gS * (gP * 512) * 512
 
 module _ (gP gS : ℕ) (s : Allocated) (c : AllKnown s) where
   by-codes : (y : ℕ) → T (has-code y) → correlation (chips gP gS s) (sync-code y)
-      ≡ real (pos gP) ⊗ real (overlap 0 y)
-      ⊕ real (pos gS) ⊗ (s .first .unit ⊗ real (overlap (suc (s .first .code)) y) ⊕ s .second .unit ⊗ real (overlap (suc (s .second .code)) y) ⊕ s .marker .unit ⊗ real (overlap (suc (s .marker .code)) y))
+      ≡ real (pos gP) ⊗ real (equal-512 0 y)
+      ⊕ real (pos gS) ⊗ (s .first .unit ⊗ real (equal-512 (suc (s .first .code)) y) ⊕ s .second .unit ⊗ real (equal-512 (suc (s .second .code)) y) ⊕ s .marker .unit ⊗ real (equal-512 (suc (s .marker .code)) y))
   unfolding chips secondaries
   by-codes y t =
       simp (correlation-⊕, correlation-⊗)
@@ -96,18 +96,18 @@ module _ (gP gS : ℕ) (s : Allocated) (c : AllKnown s) where
   module _ (m : ModulatedCode) (t : Known m) where
     -- what the code is heard with
     part : ModulatedCode → Complex
-    part n = n .unit ⊗ real (overlap (n .code) (m .code))
+    part n = n .unit ⊗ real (equal-512 (n .code) (m .code))
 
     secondary : S (chips gP gS s) (m .code) ≡ real (pos gS) ⊗ (part (s .first) ⊕ part (s .second) ⊕ part (s .marker))
     unfolding part
     secondary = by-codes (suc (m .code)) (t .listed) ∙ simp (compare·zero-suc, compare·suc-suc, real-zero, ⊗-𝟎, 𝟎-⊕)
 
-    turned : (n : ModulatedCode) → (part n ⊗ conj (m .unit)) .re ≡ pos 512 *ℤ match n m
+    by-match : (n : ModulatedCode) → (part n ⊗ conj (m .unit)) .re ≡ pos 512 *ℤ match n m
     unfolding part match
-    turned n =
-        ap (λ (x : Complex). x .re) (overlap-first (n .unit) (real (overlap (n .code) (m .code))) (conj (m .unit)) ∙ real-⊗ (overlap (n .code) (m .code)) (n .unit ⊗ conj (m .unit)))
-        ∙ ap (λ (x : ℤ). overlap (n .code) (m .code) *ℤ x) (re-of (n .unit) (m .unit))
-        ∙ overlap-times (eqb (n .code) (m .code)) (along (n .unit) (m .unit))
+    by-match n =
+        ap (λ (x : Complex). x .re) (middle-first (n .unit) (real (equal-512 (n .code) (m .code))) (conj (m .unit)) ∙ real-⊗ (equal-512 (n .code) (m .code)) (n .unit ⊗ conj (m .unit)))
+        ∙ ap (λ (x : ℤ). equal-512 (n .code) (m .code) *ℤ x) (re-of (n .unit) (m .unit))
+        ∙ equal-512-times (eqb (n .code) (m .code)) (along (n .unit) (m .unit))
 
     whole : S (chips gP gS s) (m .code) ⊗ conj (m .unit) ⊗ conj (P (chips gP gS s))
         ≡ real (pos (gS * (gP * 512))) ⊗ (part (s .first) ⊗ conj (m .unit) ⊕ part (s .second) ⊗ conj (m .unit) ⊕ part (s .marker) ⊗ conj (m .unit))
@@ -119,7 +119,7 @@ module _ (gP gS : ℕ) (s : Allocated) (c : AllKnown s) where
     unfolding share _⊕_ heard
     share-heard =
         ap (λ (x : Complex). x .re) (whole ∙ real-⊗ (pos (gS * (gP * 512))) _)
-        ∙ ap (λ (x : ℤ). pos (gS * (gP * 512)) *ℤ x) (ap₂ _+ℤ_ (ap₂ _+ℤ_ (turned (s .first)) (turned (s .second))) (turned (s .marker)))
+        ∙ ap (λ (x : ℤ). pos (gS * (gP * 512)) *ℤ x) (ap₂ _+ℤ_ (ap₂ _+ℤ_ (by-match (s .first)) (by-match (s .second))) (by-match (s .marker)))
         ∙ gather (pos (gS * (gP * 512))) (pos 512) (match (s .first) m) (match (s .second) m) (match (s .marker) m)
 
   pub score-of : (t : Allocated) → AllKnown t → total-share (chips gP gS s) t ≡ pos (scale gP gS) *ℤ agreement s t

@@ -18,8 +18,8 @@ use Rattle.slot.specs.Slot.{over-codes, channel-chip, data-chip, sync-chip, chi
 use Rattle.slot.proofs.BurstPlace.{burst-whole, without-sync}
 use Rattle.read_sync.specs.SyncReading.{of-group, read-sync-call}
 use Rattle.demands.specs.Slots.{Slot}
-use Rattle.demands.specs.Fields.{Drawn, chips-from}
-use Rattle.demands.specs.Valid.{HeldSync, Valid}
+use Rattle.demands.specs.Fields.{ChipsDrawn, chips-from}
+use Rattle.demands.specs.Valid.{ValidSync, Valid}
 use Rattle.demands.proofs.BurstReadBack.{burst-read-back}
 use Rattle.demands.proofs.History.{Good}
 use Rattle.demands.proofs.FieldReadings.{in-buffers-cong, drawn-part}
@@ -47,7 +47,7 @@ silent s h x =
 
 pub slot-burst : (slot : Slot) → Good slot → (y : SyncSetup)
     → (let s = slot .settings in let g = code-group (s .cell) in let x = burst-start g in
-    s .sync ≡ some y → ((Q k : ℕ) → s .channel Q k ≡ none) → Drawn slot x 256
+    s .sync ≡ some y → ((Q k : ℕ) → s .channel Q k ≡ none) → ChipsDrawn slot x 256
     → read-sync-call (y .case) (chips-from slot x 256 .re) (chips-from slot x 256 .im) ≡ gives (of-group g (y .frame) (y .half)))
 slot-burst slot good y e nothing drawn =
     ap (λ (b : Values). read-sync-call (y .case) (b .re) (b .im)) (drawn-part slot v (good .in-order) x 256 drawn ∙ in-buffers-cong 256 _ _ chip-is)
@@ -65,7 +65,7 @@ slot-burst slot good y e nothing drawn =
     v : Valid s
     v = good .valid
 
-    h : HeldSync (s .type) y
+    h : ValidSync (s .type) y
     h = v .sync y e
 
     chip-is : (n : ℕ) → n < 256 → chip s (x + n) ≡ burst (y .case) g (y .frame) (y .half) (y .gP) (y .gS) n

@@ -19,7 +19,7 @@ use Rattle.complex.proofs.Sizes.{within-more}
 use Rattle.codes.specs.Refusals.{gives}
 use Rattle.codes.specs.declared.ModulatedCode.{ModulatedCode}
 use Rattle.codes.specs.declared.Allocated.{Allocated}
-use Rattle.codes.specs.Allocation.{one-or-two, is-frame-and-half}
+use Rattle.codes.specs.Allocation.{one-or-two, bad-frame-or-half}
 use Rattle.codes.specs.Burst.{burst}
 use Rattle.codes.specs.SyncCodes.{Cp, C}
 use Rattle.codes.proofs.Tests.{T-true}
@@ -82,7 +82,7 @@ module _ (case : ℕ) (t : T (one-or-two case)) (own : ℕ) (l : own < candidate
         within = chips-within gP gS (chosen case own) (chosen-known case own) p′ q′
 
 -- Demand 2: "a sync burst standing alone, read with its own case, comes back as the group, frame and slot it was made for".
-pub burst-read-back : (case g frame half gP gS : ℕ) → T (one-or-two case) → g < 32 → T (is-frame-and-half case frame half) → 1 ≤ gP → gP ≤ 4095 → 1 ≤ gS → gS ≤ 4095
+pub burst-read-back : (case g frame half gP gS : ℕ) → T (one-or-two case) → g < 32 → bad-frame-or-half case frame half ≡ false → 1 ≤ gP → gP ≤ 4095 → 1 ≤ gS → gS ≤ 4095
     → let b = in-buffers 256 (burst case g frame half gP gS) in read-sync-call case (b .re) (b .im) ≡ gives (of-group g frame half)
 unfolding burst chips buffers chip chosen
 burst-read-back case g frame half gP gS t h u p p′ q q′ =

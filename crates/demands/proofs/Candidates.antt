@@ -1,24 +1,24 @@
 -- The candidates of a case: each group, frame and half has its number, and a candidate's codes and units agree with themselves more than
 -- with any other candidate's. Assumes nothing.
-use mathlib.Core.Path.{_≡_, refl, sym, subst}
-use mathlib.Core.Bool.{Bool, true, false, _&&_, _||_, not}
+use mathlib.Core.Path.{_≡_, sym, subst, _∙_}
+use mathlib.Core.Bool.{Bool, true, false, _&&_, _||_, not, and-true}
 use mathlib.Core.Logic.{_≢_}
 use Prim.Native.Nat.{ℕ, _+_, _*_, _-_, _<_, _≤_}
 use native.Mathlib.Decide.{ℕ-discrete}
 use native.Mathlib.Omega.{arith}
-use borrow.Author.Tests.{ne-eqb, eqb-false}
+use borrow.Author.Tests.{ltb-false, eqb-false, not-false, ne-eqb}
 use mir.Facts.{and-yes}
-use lib.Dec.{T, eqb, leb, nleb→lt}
+use lib.Dec.{T, eqb, ltb}
 use lib.IntN.{pos}
 use lib.Signed.{ltZ}
 use Rattle.complex.specs.Arithmetic.{real, 𝟏, 𝐣, _⊗_}
 use Rattle.codes.specs.Range.{each}
 use Rattle.codes.specs.declared.Allocated.{Allocated}
-use Rattle.codes.specs.Allocation.{allocation, one-or-two, is-frame-and-half, case-1, case-2, signed, row, code-set}
-use Rattle.codes.proofs.Tests.{each-at, same, same→eq, T-true}
+use Rattle.codes.specs.Allocation.{allocation, one-or-two, bad-frame-or-half, case-1, case-2, signed, allocation-row, code-set}
+use Rattle.codes.proofs.Tests.{each-at, neither, same, same→eq, T-true}
 use Rattle.codes.proofs.Allocations.{AllKnown, allocation-known}
 use Rattle.read_sync.specs.declared.Candidate.{Candidate}
-use Rattle.read_sync.specs.SyncReading.{of-group, candidate, candidates, sent}
+use Rattle.read_sync.specs.SyncReading.{of-group, candidate, candidates, candidate-codes}
 use Rattle.demands.proofs.BurstCorrelations.{along, match, heard, agreement}
 
 one-or-other : (F : ℕ → Type 0) → F 1 → F 2 → (n : ℕ) → T (one-or-two n) → F n
@@ -51,35 +51,31 @@ module _ (g frame half : ℕ) (h : g < 32) (f : (1 ≤ frame) × (frame ≤ 2)) 
   unfolding candidate
   has-number-2 = record { index = 4 * g + 2 * (frame - 1) + half; below = omega arith; is = equal (omega arith) (omega arith) (omega arith) }
 
-pub has-number : (case g frame half : ℕ) → T (one-or-two case) → g < 32 → T (is-frame-and-half case frame half) → Numbered case (of-group g frame half)
-unfolding is-frame-and-half
+pub has-number : (case g frame half : ℕ) → T (one-or-two case) → g < 32 → bad-frame-or-half case frame half ≡ false → Numbered case (of-group g frame half)
+unfolding bad-frame-or-half
 has-number case g frame half t h u =
-    one-or-other (λ case. T (not (eqb half 1 && eqb case 1)) → Numbered case (of-group g frame half))
+    one-or-other (λ case. (eqb half 1 && eqb case 1) ≡ false → Numbered case (of-group g frame half))
     (λ v. has-number-1 g frame half h f l (zero-half v)) (λ v. has-number-2 g frame half h f l) case t (parts .1 .1)
   where
-    parts : T (one-or-two frame) × (T (not (leb 2 half)) × T (not (eqb half 1 && eqb case 1)))
+    parts : (not (one-or-two frame) ≡ false) × ((ltb 1 half ≡ false) × ((eqb half 1 && eqb case 1) ≡ false))
     parts =
-        let p = and-yes (one-or-two frame && not (leb 2 half)) (not (eqb half 1 && eqb case 1)) u in
-        let q = and-yes (one-or-two frame) (not (leb 2 half)) (p .0) in
+        let p = neither (not (one-or-two frame) || ltb 1 half) (eqb half 1 && eqb case 1) u in
+        let q = neither (not (one-or-two frame)) (ltb 1 half) (p .0) in
         (q .0, (q .1, p .1))
 
     f : (1 ≤ frame) × (frame ≤ 2)
-    f = either-frame frame (parts .0)
+    f = either-frame frame (subst T (sym (not-false (one-or-two frame) (parts .0))) tt)
 
     l : half < 2
-    l = nleb→lt 2 half (parts .1 .0)
+    l = omega (arith, ltb-false 1 half (parts .1 .0))
 
-    zero-half : T (not (eqb half 1 && eqb 1 1)) → half ≡ 0
-    zero-half v = go (eqb half 1) refl v
-      where
-        go : (b : Bool) → eqb half 1 ≡ b → T (not (b && eqb 1 1)) → half ≡ 0
-        go true e w = absurd w
-        go false e w = omega (arith, eqb-false half 1 e, l)
+    zero-half : (eqb half 1 && eqb 1 1) ≡ false → half ≡ 0
+    zero-half v = omega (arith, eqb-false half 1 (sym (and-true (eqb half 1)) ∙ v), l)
 
 -- ---- the codes
 -- the codes that candidate n sends
 unfoldable pub chosen : ℕ → ℕ → Allocated
-chosen case n = sent case (candidate case n)
+chosen case n = candidate-codes case (candidate case n)
 
 -- they are sync codes, and their units are small
 pub chosen-known : (case n : ℕ) → AllKnown (chosen case n)
@@ -94,7 +90,7 @@ distinct : ℕ → ℕ → Bool
 distinct case own = same (agreement (chosen case own) (chosen case own)) (pos 3) && each (candidates case) (distinct-from case own)
 
 distinct-test : T (each 64 (distinct 1) && each 128 (distinct 2))
-unfolding each distinct distinct-from chosen same agreement heard match along candidate allocation one-or-two is-frame-and-half case-1 case-2 signed row code-set real 𝟏 𝐣 _⊗_
+unfolding each distinct distinct-from chosen same agreement heard match along candidate allocation one-or-two bad-frame-or-half case-1 case-2 signed allocation-row code-set real 𝟏 𝐣 _⊗_
 distinct-test = tt
 
 distinct-at : (case : ℕ) → T (one-or-two case) → (own : ℕ) → own < candidates case → T (distinct case own)

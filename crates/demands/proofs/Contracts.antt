@@ -14,18 +14,18 @@ use Rattle.read.specs.Reading.{read-call}
 use Rattle.harden.specs.Hardening.{harden-call}
 use Rattle.read_sync.specs.declared.Candidate.{Candidate}
 use Rattle.read_sync.specs.SyncReading.{read-sync-call}
-use Rattle.demands.specs.Calls.{Call, Step, tell, tell-plan, tell-draw}
+use Rattle.demands.specs.Calls.{Call, Step, as-answer, as-plan-answer, as-draw-answer}
 use Rattle.demands.specs.Runs.{Ran, by-set-cell, by-open, by-load-plan, by-load-records, by-close, by-set-gain, by-load-bits, by-set-sync, by-clear-sync, by-start, by-draw}
 use Rattle.demands.specs.AnalyserRuns.{Output, RanRead, by-read, RanHarden, by-harden, RanReadSync, by-read-sync, wrote, wrote-bits}
 use Rattle.demands.proofs.BenchSteps.{bench-step}
 
 -- ---- the bench: the clauses `answer` and `bench` of a contract make the call's step
 module _ {n n′ : Bench} (q : n ≡ n′) where
-  as-step : {t t′ : Answer (Unit {0})} → t ≡ t′ → _≡_ {A = Step Bench} (record { told = tell t; next = n }) (record { told = tell t′; next = n′ })
-  as-step p = λ i. record { told = tell (p i); next = q i }
+  as-step : {t t′ : Answer (Unit {0})} → t ≡ t′ → _≡_ {A = Step Bench} (record { answer = as-answer t; next = n }) (record { answer = as-answer t′; next = n′ })
+  as-step p = λ i. record { answer = as-answer (p i); next = q i }
 
-  as-plan-step : {t t′ : AnswerAt (Unit {0})} → t ≡ t′ → _≡_ {A = Step Bench} (record { told = tell-plan t; next = n }) (record { told = tell-plan t′; next = n′ })
-  as-plan-step p = λ i. record { told = tell-plan (p i); next = q i }
+  as-plan-step : {t t′ : AnswerAt (Unit {0})} → t ≡ t′ → _≡_ {A = Step Bench} (record { answer = as-plan-answer t; next = n }) (record { answer = as-plan-answer t′; next = n′ })
+  as-plan-step p = λ i. record { answer = as-plan-answer (p i); next = q i }
 
 pub ran-step : {b : Bench} {c : Call (List ℤ)} {y : Step Bench} → Ran b c y → y ≡ bench-step b c
 unfolding bench-step
@@ -39,7 +39,7 @@ ran-step (by-load-bits κs Q k bits r e x) = as-step (x .1) (x .0)
 ran-step (by-set-sync case frame half gP gS r e x) = as-step (x .1) (x .0)
 ran-step (by-clear-sync r e x) = as-step (x .1) (x .0)
 ran-step (by-start r e x) = as-step (x .1) (x .0)
-ran-step (by-draw κs re im r e x) = λ i. record { told = tell-draw (x .0 i) (x .1 .1 .0 i) (x .1 .1 .1 i); next = x .1 .0 i }
+ran-step (by-draw κs re im r e x) = λ i. record { answer = as-draw-answer (x .0 i) (x .1 .1 .0 i) (x .1 .1 .1 i); next = x .1 .0 i }
 
 -- ---- the analyser: where the definition gives values, the function accepted and wrote them
 pub read-meets : {p Q k : ℕ} {field out : Values} {y : Output Values} → RanRead p Q k field out y

@@ -23,7 +23,7 @@ use Rattle.modulation.specs.Symbols.{pair}
 use Rattle.slot.specs.Slot.{data-chips, bit-count}
 use Rattle.slot.specs.Tables.{place, held-bit}
 use Rattle.slot.proofs.Lengths.{lengths-of}
-use Rattle.tables.specs.Bits.{owns, pair-number, pairs-with}
+use Rattle.tables.specs.Bits.{is-entry-of, pair-of-entry, pairs-with-bits}
 use Rattle.tables.proofs.Blocks.{Code, pairs-in-block}
 use Rattle.bench.specs.BenchCalls.{some-code}
 
@@ -79,13 +79,13 @@ module _ (Q k : ℕ) (c : Code Q k) where
   at n = let l = mod-lt n (block .0) in (l, omega (arith, block), omega (arith, block))
 
   -- this entry is the code's own, and that of pair n
-  own-entry : (n : ℕ) → (owns Q k (place Q k n) ≡ true) × (pair-number Q (place Q k n) ≡ n)
+  own-entry : (n : ℕ) → (is-entry-of Q k (place Q k n) ≡ true) × (pair-of-entry Q (place Q k n) ≡ n)
   own-entry n =
       let (l, e, f) = at n in
       (rw (f, digits-div k l) (eq-eqb k k refl), rw (e, f, digits-mod k l) (div-add-mod' n w))
 
   -- an unrelated code does not own it: the entries that both own are leaves below both
-  other-entry : (Q′ k′ n : ℕ) → Code Q′ k′ → related Q k Q′ k′ ≡ false → owns Q′ k′ (place Q k n) ≡ false
+  other-entry : (Q′ k′ n : ℕ) → Code Q′ k′ → related Q k Q′ k′ ≡ false → is-entry-of Q′ k′ (place Q k n) ≡ false
   unfolding overlap
   other-entry Q′ k′ n c′ r = ne-eqb (i / width Q′) k′ (λ e. true≢false (sym (both e) ∙ r))
     where
@@ -121,11 +121,11 @@ module _ (Q k : ℕ) (c : Code Q k) where
 -- ---- the bits read after bits were written for code (Q, k)
 module _ (pairs : List ℕ) (Q k : ℕ) (c : Code Q k) (bits : List ℕ) (t i : ℕ) where
   abbrev new : List ℕ
-  new = pairs-with pairs Q k bits
+  new = pairs-with-bits pairs Q k bits
 
   -- an entry, and one of its two bits
-  entry : (n : ℕ) → n < 2208 → getD new n 0 ≡ cond (owns Q k n) (pair bits (pair-number Q n)) (getD pairs n 0)
-  unfolding pairs-with
+  entry : (n : ℕ) → n < 2208 → getD new n 0 ≡ cond (is-entry-of Q k n) (pair bits (pair-of-entry Q n)) (getD pairs n 0)
+  unfolding pairs-with-bits
   entry n l = listed-at _ 0 2208 n l
 
   abbrev bit : ℕ → ℕ

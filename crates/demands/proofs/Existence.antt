@@ -17,48 +17,48 @@ use Rattle.bench.specs.declared.PlanAnswer.{PlanAnswer}
 use Rattle.bench.specs.declared.PlanAnswer.the-variants.{Loaded, Refused as NotLoaded}
 use Rattle.bench.specs.declared.DrawAnswer.{DrawAnswer}
 use Rattle.bench.specs.declared.DrawAnswer.the-variants.{Drew, Refused as NotDrawn}
-use Rattle.bench.specs.BenchCalls.{AnswerAt, refused-at, loads, told-call, told-plan, told-draw, set-cell-call, open-call, load-plan-call, plan-outcome, plan-left-by, close-call, set-gain-call, load-bits-call, set-sync-call, clear-sync-call, start-call, draw-call, counted, left-by}
+use Rattle.bench.specs.BenchCalls.{AnswerAt, refused-at, loads, answer-of-call, answer-of-plan, answer-of-draw, set-cell-call, open-call, load-plan-call, plan-outcome, plan-left-by, close-call, set-gain-call, load-bits-call, set-sync-call, clear-sync-call, start-call, draw-call, counted, left-by}
 use Rattle.read.specs.declared.ReadAnswer.{ReadAnswer}
 use Rattle.read.specs.declared.ReadAnswer.the-variants.{Read, Refused as NotRead}
-use Rattle.read.specs.Reading.{read-call, told-read}
+use Rattle.read.specs.Reading.{read-call, answer-of-read}
 use Rattle.harden.specs.declared.HardenAnswer.{HardenAnswer}
 use Rattle.harden.specs.declared.HardenAnswer.the-variants.{Hardened, Refused as NotHardened}
-use Rattle.harden.specs.Hardening.{harden-call, told-harden}
+use Rattle.harden.specs.Hardening.{harden-call, answer-of-harden}
 use Rattle.read_sync.specs.declared.Candidate.{Candidate}
 use Rattle.read_sync.specs.declared.SyncAnswer.{SyncAnswer}
 use Rattle.read_sync.specs.declared.SyncAnswer.the-variants.{Burst, Refused as NotFound}
-use Rattle.read_sync.specs.SyncReading.{read-sync-call, told-sync}
+use Rattle.read_sync.specs.SyncReading.{read-sync-call, answer-of-sync}
 use Rattle.demands.specs.Calls.{Call, set-cell, open-code, load-plan, close, set-gain, load-bits, set-sync, clear-sync, start, draw, Step}
 use Rattle.demands.specs.Runs.{Ran, by-set-cell, by-open, by-load-plan, by-load-records, by-close, by-set-gain, by-load-bits, by-set-sync, by-clear-sync, by-start, by-draw}
 use Rattle.demands.specs.AnalyserRuns.{Output, RanRead, by-read, RanHarden, by-harden, RanReadSync, by-read-sync}
 
 -- ---- a result that gives an answer
--- an enum's case for each answer, and that it is told as that answer
-record Case (E A : Type 0) (told : E → A) (a : A) : Type 0 where
+-- an enum's case for each answer, and that it stands for that answer
+record Case (E A : Type 0) (answer : E → A) (a : A) : Type 0 where
   pub case : E
-  pub is : told case ≡ a
+  pub is : answer case ≡ a
 
-call-case : (a : Answer (Unit {0})) → Case CallAnswer (Answer (Unit {0})) told-call a
+call-case : (a : Answer (Unit {0})) → Case CallAnswer (Answer (Unit {0})) answer-of-call a
 call-case (refused n) = record { case = Refused n; is = refl }
 call-case (gives a) = record { case = Accepted; is = refl }
 
-plan-case : (a : AnswerAt (Unit {0})) → Case PlanAnswer (AnswerAt (Unit {0})) told-plan a
+plan-case : (a : AnswerAt (Unit {0})) → Case PlanAnswer (AnswerAt (Unit {0})) answer-of-plan a
 plan-case (refused-at n place) = record { case = NotLoaded n place; is = refl }
 plan-case (loads a) = record { case = Loaded; is = refl }
 
-draw-case : (a : Answer ℕ) → Case DrawAnswer (Answer ℕ) told-draw a
+draw-case : (a : Answer ℕ) → Case DrawAnswer (Answer ℕ) answer-of-draw a
 draw-case (refused n) = record { case = NotDrawn n; is = refl }
 draw-case (gives m) = record { case = Drew m; is = refl }
 
-read-case : (a : Answer (Unit {0})) → Case ReadAnswer (Answer (Unit {0})) told-read a
+read-case : (a : Answer (Unit {0})) → Case ReadAnswer (Answer (Unit {0})) answer-of-read a
 read-case (refused n) = record { case = NotRead n; is = refl }
 read-case (gives a) = record { case = Read; is = refl }
 
-harden-case : (a : Answer (Unit {0})) → Case HardenAnswer (Answer (Unit {0})) told-harden a
+harden-case : (a : Answer (Unit {0})) → Case HardenAnswer (Answer (Unit {0})) answer-of-harden a
 harden-case (refused n) = record { case = NotHardened n; is = refl }
 harden-case (gives a) = record { case = Hardened; is = refl }
 
-sync-case : (a : Answer Candidate) → Case SyncAnswer (Answer Candidate) told-sync a
+sync-case : (a : Answer Candidate) → Case SyncAnswer (Answer Candidate) answer-of-sync a
 sync-case (refused n) = record { case = NotFound n; is = refl }
 sync-case (gives c) = record { case = Burst c; is = refl }
 

@@ -26,13 +26,13 @@ use Rattle.slot.specs.Setup.{SyncSetup, Setup}
 use Rattle.slot.specs.Slot.{burst-type, data-chip, sync-chip, chip}
 use Rattle.orthogonality.proofs.Unrelated.{Unrelated}
 use Rattle.orthogonality.proofs.DataSizes.{data-within}
-use Rattle.demands.specs.Fields.{Field, field-1, field-2, field-length, field-start, field-before, part}
-use Rattle.demands.specs.Valid.{HeldSync, Valid}
+use Rattle.demands.specs.Fields.{Field, field-1, field-2, field-length, field-start, field-before, entries-from}
+use Rattle.demands.specs.Valid.{ValidSync, Valid}
 use Rattle.demands.proofs.BurstCorrelations.{chips}
 use Rattle.demands.proofs.BurstSizes.{chips-within}
 
 -- ---- a part of the chips that were drawn
-pub part-listed : {A : Type 0} (d : A) (g : ℕ → A) (at n count : ℕ) → at + n ≤ count → part at n (listed count g) ≡ listed n (λ i. g (at + i))
+pub part-listed : {A : Type 0} (d : A) (g : ℕ → A) (at n count : ℕ) → at + n ≤ count → entries-from at n (listed count g) ≡ listed n (λ i. g (at + i))
 part-listed d g at n count h =
     ext-getD d _ _ (size ∙ sym (length-listed _ n))
     (λ i l.
@@ -40,7 +40,7 @@ part-listed d g at n count h =
     getD-take n (drop at (listed count g)) i d m ∙ getD-drop at (listed count g) i d ∙ listed-at g d count (at + i) (omega arith)
     ∙ sym (listed-at (λ i. g (at + i)) d n i m))
   where
-    size : length (part at n (listed count g)) ≡ n
+    size : length (entries-from at n (listed count g)) ≡ n
     size = length-take-le n (drop at (listed count g)) (omega (arith, length-drop at (listed count g), length-listed g count))
 
 -- ---- the lengths of a field
@@ -94,7 +94,7 @@ pub sync-within : (s : Setup) → Valid s → (x : ℕ) → Both 28665 (sync-chi
 unfolding sync-chip
 sync-within s v x = go (s .sync) (v .sync)
   where
-    go : (o : Option SyncSetup) → ((y : SyncSetup) → o ≡ some y → HeldSync (s .type) y) → Both 28665 (sync-chip (s .cell) o x)
+    go : (o : Option SyncSetup) → ((y : SyncSetup) → o ≡ some y → ValidSync (s .type) y) → Both 28665 (sync-chip (s .cell) o x)
     go none h = nothing-within 28665
     go (some y) h =
         let k = h y refl in

@@ -1,13 +1,13 @@
 -- What read gives for a data field of a slot whose chips were drawn in order. Assumes nothing.
 use mathlib.Core.Path.{_≡_, refl, ap, ap₂, _∙_, sym, subst}
-use mathlib.Core.Bool.{true, false, _&&_, not}
+use mathlib.Core.Bool.{true, false, not}
 use mathlib.Core.List.{List}
 use mathlib.Core.Option.{Option, none, some}
 use Prim.Native.Nat.{ℕ, _+_, _*_, _/_, _%_, _≤_, _<_}
 use native.Mathlib.Nat.{div-mul-le-self, mul-le-mul-right}
 use native.Mathlib.Omega.{arith}
 use borrow.Author.Tests.{not-true, lt-leb, le-ltb, eq-eqb, ne-eqb}
-use lib.Dec.{T, leb, ltb, lit≤}
+use lib.Dec.{T, lit≤}
 use lib.IntN.{ℤ, pos}
 use lib.ListN.{length}
 use Rattle.complex.specs.declared.Complex.{Complex}
@@ -19,16 +19,15 @@ use Rattle.complex.proofs.Ring.{𝟎-⊗}
 use Rattle.complex.proofs.Sizes.{within-more}
 use Rattle.complex.proofs.Sums.{Σ-cong, Σ-𝟎}
 use Rattle.codes.specs.Refusals.{Answer, gives}
-use Rattle.codes.specs.Scrambling.{scrambling, code-group}
+use Rattle.codes.specs.Scrambling.{scrambling}
 use Rattle.codes.specs.Tree.{is-code, element}
-use Rattle.codes.specs.Burst.{burst-start}
 use Rattle.codes.proofs.Tests.{each-at, T-true}
-use Rattle.slot.specs.Setup.{SyncSetup, Setup, is-some}
-use Rattle.slot.specs.Slot.{data-chip, sync-chip, chip}
+use Rattle.slot.specs.Setup.{SyncSetup, Setup}
+use Rattle.slot.specs.Slot.{data-chip, falls-on, sync-chip, chip}
 use Rattle.analyser_parts.proofs.Ranges.{none-outside}
 use Rattle.read.specs.Reading.{reading, read-call}
 use Rattle.demands.specs.Slots.{Slot, InOrder}
-use Rattle.demands.specs.Fields.{Field, field-length, field-start, field-before, part, Drawn, DrawnWhole, chips-from, drawn-field, reading-count, Suffice, burst-at, no-burst}
+use Rattle.demands.specs.Fields.{Field, field-length, field-start, field-before, entries-from, ChipsDrawn, DrawnWhole, chips-from, drawn-field, reading-count, Suffice, no-burst}
 use Rattle.demands.specs.Valid.{Valid}
 use Rattle.demands.proofs.Readings.{reading-additive}
 use Rattle.demands.proofs.Entries.{code-of}
@@ -80,16 +79,13 @@ module _ (p Q k n : ℕ) (x : ℕ → Complex) (l : p < 128) (c : is-code Q k �
 
 -- ---- a field of a slot whose chips were drawn
 -- where no burst chip falls, the chip is 0
-no-sync-chip : (s : Setup) (x : ℕ) → burst-at s x ≡ false → sync-chip (s .cell) (s .sync) x ≡ 𝟎
+no-sync-chip : (p : ℕ) (y : Option SyncSetup) (x : ℕ) → falls-on p y x ≡ false → sync-chip p y x ≡ 𝟎
 unfolding sync-chip
-no-sync-chip s x e = go (s .sync) e
-  where
-    go : (y : Option SyncSetup) → (let start = burst-start (code-group (s .cell)) in is-some y && (leb start x && ltb x (start + 256))) ≡ false → sync-chip (s .cell) y x ≡ 𝟎
-    go none e = refl
-    go (some y) e = rw e
+no-sync-chip p none x e = refl
+no-sync-chip p (some y) x e = rw e
 
 pub quiet-chip : (s : Setup) (x n : ℕ) → no-burst s x n ≡ true → (i : ℕ) → i < n → sync-chip (s .cell) (s .sync) (x + i) ≡ 𝟎
-quiet-chip s x n e i l = no-sync-chip s (x + i) (not-true _ (T-true _ (each-at n (λ i. not (burst-at s (x + i))) (subst T (sym e) tt) i l)))
+quiet-chip s x n e i l = no-sync-chip (s .cell) (s .sync) (x + i) (not-true _ (T-true _ (each-at n (λ i. not (falls-on (s .cell) (s .sync) (x + i))) (subst T (sym e) tt) i l)))
 
 -- what read gives with a start's cell parameter
 abbrev pub read-of : Setup → ℕ → ℕ → Values → Values → Answer Values
@@ -107,11 +103,11 @@ module _ (slot : Slot) (v : Valid (slot .settings)) (o : InOrder slot) where
   s = slot .settings
 
   -- the drawn chips from chip x to chip x + n - 1
-  pub drawn-part : (x n : ℕ) → Drawn slot x n → chips-from slot x n ≡ in-buffers n (λ i. chip s (x + i))
+  pub drawn-part : (x n : ℕ) → ChipsDrawn slot x n → chips-from slot x n ≡ in-buffers n (λ i. chip s (x + i))
   drawn-part x n d =
       let e = o .chips in
       let l : length (slot .chips .re) ≡ o .count = ap (λ (w : Values). length (w .re)) e ∙ length-listed _ (o .count) in
-      ap (λ (w : Values). record { re = part x n (w .re); im = part x n (w .im) }) e
+      ap (λ (w : Values). record { re = entries-from x n (w .re); im = entries-from x n (w .im) }) e
       ∙ ap₂ (λ (re im : List ℤ). record { re = re; im = im })
       (part-listed (pos 0) (λ i. chip s i .re) x n (o .count) (omega (arith, l)))
       (part-listed (pos 0) (λ i. chip s i .im) x n (o .count) (omega (arith, l)))

@@ -21,13 +21,13 @@ use Rattle.codes.specs.Tree.{among, is-spreading-factor}
 use Rattle.codes.proofs.Factors.{of-all, of-factors, factor-range}
 use Rattle.codes.proofs.Tests.{each-all}
 use Rattle.modulation.specs.Symbols.{pair, symbol}
-use Rattle.slot.specs.Setup.{Channel, Setup, is-some}
+use Rattle.slot.specs.Setup.{ChannelSetup, Setup, is-some}
 use Rattle.slot.specs.Slot.{burst-type, bit-count}
 use Rattle.tables.proofs.Blocks.{Code}
 use Rattle.harden.specs.Hardening.{hard-pair, hard-bit, harden-call}
 use Rattle.orthogonality.proofs.Hardened.{hardened}
-use Rattle.demands.specs.Fields.{Field, field-1, field-2, field-length, field-before, part, reading-count, own-symbol, own-readings, no-burst, field-bits}
-use Rattle.demands.specs.Valid.{Held, Valid}
+use Rattle.demands.specs.Fields.{Field, field-1, field-2, field-length, field-before, entries-from, reading-count, own-symbol, own-readings, no-burst, field-bits}
+use Rattle.demands.specs.Valid.{ValidChannel, Valid}
 use Rattle.demands.proofs.Entries.{code-of}
 
 -- ---- the bits of the two fields are those of the channel
@@ -40,7 +40,7 @@ unfolding Split burst-type
 split t Q e f = of-all (λ t. (Q : ℕ) → is-spreading-factor Q ≡ true → Split t Q) (1 ∷ 2 ∷ 3 ∷ [])
     (of-factors (Split 1) refl refl refl refl refl, (of-factors (Split 2) refl refl refl refl refl, (of-factors (Split 3) refl refl refl refl refl, tt))) t e Q f
 
-module _ (s : Setup) (Q : ℕ) (c : Channel) (t : among (s .type) (1 ∷ 2 ∷ 3 ∷ []) ≡ true) (q : is-spreading-factor Q ≡ true) (count : length (c .bits) ≡ bit-count (s .type) Q) where
+module _ (s : Setup) (Q : ℕ) (c : ChannelSetup) (t : among (s .type) (1 ∷ 2 ∷ 3 ∷ []) ≡ true) (q : is-spreading-factor Q ≡ true) (count : length (c .bits) ≡ bit-count (s .type) Q) where
   enough : (f : Field) → 2 * (field-before s f / Q) + 2 * reading-count s f Q ≤ length (c .bits)
   unfolding Split
   enough field-1 = omega (arith, split (s .type) Q t q, count, zero-div Q)
@@ -51,7 +51,7 @@ module _ (s : Setup) (Q : ℕ) (c : Channel) (t : among (s .type) (1 ∷ 2 ∷ 3
   both-fields =
       let n = 2 * (field-length s field-1 / Q) in
       let e : 2 * (0 / Q) ≡ 0 = omega (arith, zero-div Q) in
-      (λ i. part (e i) n (c .bits) ++ take-all (2 * (field-length s field-2 / Q)) (drop n (c .bits)) (omega (arith, length-drop n (c .bits), split (s .type) Q t q, count)) i)
+      (λ i. entries-from (e i) n (c .bits) ++ take-all (2 * (field-length s field-2 / Q)) (drop n (c .bits)) (omega (arith, length-drop n (c .bits), split (s .type) Q t q, count)) i)
       ∙ take-append-drop n (c .bits)
 
 -- ---- a reading's two bits
@@ -71,11 +71,11 @@ module _ (Q g : ℕ) (some-Q : 0 < Q) (some-g : 0 < g) (bits : List ℕ) (h : (i
           rw (ne-eqb (b % 2) 0 e) (v ∙ ap (λ (n : ℕ). getD bits n 0) i)
 
 -- ---- hardening a channel's own readings gives the bits that the field sends
-module _ (s : Setup) (v : Valid s) (Q k : ℕ) (c : Channel) (e : s .channel Q k ≡ some c) where
+module _ (s : Setup) (v : Valid s) (Q k : ℕ) (c : ChannelSetup) (e : s .channel Q k ≡ some c) where
   code : Code Q k
   code = code-of Q k (v .code Q k (ap is-some e))
 
-  h : Held (s .type) Q c
+  h : ValidChannel (s .type) Q c
   h = v .channel Q k c e
 
   pub all-bits : field-bits s field-1 Q c ++ field-bits s field-2 Q c ≡ c .bits

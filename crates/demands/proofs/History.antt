@@ -19,11 +19,11 @@ use Rattle.slot.specs.Slot.{slot-length, chip}
 use Rattle.bench.specs.declared.Bench.{Bench}
 use Rattle.bench.specs.BenchCalls.{set-cell-refusals, open-refusals, AnswerAt, refused-at, loads, close-refusals, set-gain-refusals, load-bits-refusals, set-sync-refusals}
 use Rattle.demands.specs.Calls.{Call, set-cell, open-code, load-plan, close, set-gain, load-bits, set-sync, clear-sync, start, draw, refused-by, Step}
-use Rattle.demands.specs.Reference.{Reference, cell-set, opened, closed, gain-set, bits-loaded, with-sync, plan-loaded, with-settings, by-entry, by-plan, drawn, reference-step, fed}
-use Rattle.demands.specs.Slots.{Slot, extended, is-start, noted, InOrder, NothingLeft}
+use Rattle.demands.specs.Reference.{Reference, cell-set, opened, closed, gain-set, bits-loaded, sync-changed, plan-loaded, settings-changed, entry-step, plan-step, draw-step, reference-step, arguments}
+use Rattle.demands.specs.Slots.{Slot, extended, is-start, slots-after, InOrder, NothingLeft}
 use Rattle.demands.specs.Runs.{Ran}
 use Rattle.demands.specs.Valid.{Valid, ValidReference}
-use Rattle.demands.proofs.Steps.{reference-of, seen, ValidBench, ran-steps}
+use Rattle.demands.proofs.Steps.{reference-of, step-of, ValidBench, ran-steps}
 
 -- ---- what holds of each accepted start
 pub record Good (x : Slot) : Type 0 where
@@ -45,37 +45,37 @@ pub record Last (r : Reference) (x : Slot) : Type 0 where
   pub valid : Valid (x .settings)
 
 -- and of all
-abbrev pub Noted : Reference → List Slot → Type 0
-Noted r [] = r .sending ≡ none
-Noted r (x ∷ past) = Last r x × All Good past
+abbrev pub Recorded : Reference → List Slot → Type 0
+Recorded r [] = r .sending ≡ none
+Recorded r (x ∷ past) = Last r x × All Good past
 
-pub all-good : (r : Reference) → ValidReference r → (past : List Slot) → Noted r past → All Good past
+pub all-good : (r : Reference) → ValidReference r → (past : List Slot) → Recorded r past → All Good past
 all-good r v [] h = tt
 all-good r v (x ∷ past) h = (record { in-order = record { count = r .sent; at-most = v .at-most; chips = h .0 .chips }; valid = h .0 .valid }, h .1)
 
 -- ---- one call
--- what is noted looks at the copy and the tally alone
-other-settings : (r : Reference) (s : Setup) (past : List Slot) → Noted r past → Noted (with-settings r s) past
+-- what is recorded looks at the copy and the tally alone
+other-settings : (r : Reference) (s : Setup) (past : List Slot) → Recorded r past → Recorded (settings-changed r s) past
 other-settings r s [] h = h
 other-settings r s (x ∷ past) h = (record { copy = h .0 .copy; chips = h .0 .chips; valid = h .0 .valid }, h .1)
 
 -- the step, with what it adds to the slots
 abbrev pub Kept : List Slot → Bool → Step Reference → Type 0
-Kept past t y = Noted (y .next) (noted (y .next .sending) t (y .told) past)
+Kept past t y = Recorded (y .next) (slots-after (y .next .sending) t (y .answer) past)
 
-module _ (r : Reference) (past : List Slot) (h : Noted r past) where
-  entry-kept : (x : Answer Setup) → Kept past false (by-entry r x)
+module _ (r : Reference) (past : List Slot) (h : Recorded r past) where
+  entry-kept : (x : Answer Setup) → Kept past false (entry-step r x)
   entry-kept (refused n) = h
   entry-kept (gives s) = other-settings r s past h
 
-  plan-kept : (x : AnswerAt Setup) → Kept past false (by-plan r x)
+  plan-kept : (x : AnswerAt Setup) → Kept past false (plan-step r x)
   plan-kept (refused-at n place) = h
   plan-kept (loads s) = other-settings r s past h
 
 abbrev model : Setup → Option Setup → ℕ → Reference
 model s o n = record { settings = s; sending = o; sent = n }
 
-start-kept : (s : Setup) (o : Option Setup) (n : ℕ) → ValidReference (model s o n) → (past : List Slot) → Noted (model s o n) past
+start-kept : (s : Setup) (o : Option Setup) (n : ℕ) → ValidReference (model s o n) → (past : List Slot) → Recorded (model s o n) past
     → Kept past true (reference-step (model s o n) start)
 unfolding reference-step listed
 start-kept s none n v past h = (record { copy = refl; chips = refl; valid = v .settings }, all-good (model s none n) v past h)
@@ -91,7 +91,7 @@ same-copy {s} {c} {n} {x} l = go (eqb n slot-length) (l .copy)
 
 -- m chips more are drawn
 more-drawn : (s c : Setup) (n m : ℕ) (x : Slot) (past : List Slot) → Last (model s (some c) n) x → All Good past
-    → Noted (model s (cond (eqb (n + m) slot-length) none (some c)) (n + m)) (extended (in-buffers m (λ i. chip c (n + i))) (x ∷ past))
+    → Recorded (model s (cond (eqb (n + m) slot-length) none (some c)) (n + m)) (extended (in-buffers m (λ i. chip c (n + i))) (x ∷ past))
 more-drawn s c n m x past l g =
     let e = same-copy l in
     let f = chip (x .settings) in (
@@ -103,7 +103,7 @@ more-drawn s c n m x past l g =
       g,
     )
 
-draw-kept : (s : Setup) (o : Option Setup) (n : ℕ) (past : List Slot) → Noted (model s o n) past
+draw-kept : (s : Setup) (o : Option Setup) (n : ℕ) (past : List Slot) → Recorded (model s o n) past
     → (a b : ℕ) → Kept past false (reference-step (model s o n) (draw a b))
 unfolding reference-step
 draw-kept s none n past h a b = h
@@ -114,9 +114,9 @@ draw-kept s (some c) n (x ∷ past) h a b = go (eqb a b) refl
     go false e = rw e h
     go true e = rw e (more-drawn s c n (min a (slot-length - n)) x past (h .0) (h .1))
 
-kept : (r : Reference) → ValidReference r → (past : List Slot) → Noted r past
-    → (c : Call (List ℤ)) → Kept past (is-start c) (reference-step r (fed c))
-unfolding reference-step fed
+kept : (r : Reference) → ValidReference r → (past : List Slot) → Recorded r past
+    → (c : Call (List ℤ)) → Kept past (is-start c) (reference-step r (arguments c))
+unfolding reference-step arguments
 kept r v past h (set-cell p t) = entry-kept r past h (set-cell-refusals p t otherwise cell-set p t)
 kept r v past h (open-code Q k g) = let s = r .settings in entry-kept r past h (open-refusals s Q k g otherwise opened s Q k g)
 kept r v past h (load-plan plan) = plan-kept r past h (plan-loaded (r .settings) plan)
@@ -126,13 +126,13 @@ kept r v past h (load-bits Q k bits) = let s = r .settings in entry-kept r past 
 kept r v past h (set-sync case frame half gP gS) =
     let s = r .settings in
     entry-kept r past h (set-sync-refusals s case frame half gP gS otherwise
-    with-sync s (some (record { case = case; frame = frame; half = half; gP = gP; gS = gS })))
-kept r v past h clear-sync = other-settings r (with-sync (r .settings) none) past h
+    sync-changed s (some (record { case = case; frame = frame; half = half; gP = gP; gS = gS })))
+kept r v past h clear-sync = other-settings r (sync-changed (r .settings) none) past h
 kept r v past h start = start-kept (r .settings) (r .sending) (r .sent) v past h
 kept r v past h (draw re im) = draw-kept (r .settings) (r .sending) (r .sent) past h (length re) (length im)
 
 -- of a run
-pub kept-by : (b : Bench) → ValidBench b → (past : List Slot) → Noted (reference-of b) past → {c : Call (List ℤ)} {y : Step Bench} → Ran b c y → Kept past (is-start c) (seen y)
+pub kept-by : (b : Bench) → ValidBench b → (past : List Slot) → Recorded (reference-of b) past → {c : Call (List ℤ)} {y : Step Bench} → Ran b c y → Kept past (is-start c) (step-of y)
 kept-by b v past h {c} r = subst (Kept past (is-start c)) (ran-steps b v r .same) (kept (reference-of b) (v .model) past h c)
 
 -- ---- refusal 11
@@ -148,12 +148,12 @@ gone {s} {n} {x} l = go (eqb n slot-length) refl (l .copy)
     go true e f = eqb-true n slot-length e
     go false e f = absurd (Option·none-ne-some (x .settings) f)
 
-not-11 : (r : Reference) (m : ℕ) (t : Bool) → drawn r m (12 if t ∷ [] otherwise tt) .told ≡ refused-by 11 → ⊥
+not-11 : (r : Reference) (m : ℕ) (t : Bool) → draw-step r m (12 if t ∷ [] otherwise tt) .answer ≡ refused-by 11 → ⊥
 not-11 r m true e = let z : _≡_ {A = ℕ} 12 11 = cc in omega arith
 not-11 r m false e = let z : _≡_ {A = ℕ} 0 1 = cc in omega arith
 
-pub draw-11 : (s : Setup) (o : Option Setup) (n : ℕ) → ValidReference (model s o n) → (past : List Slot) → Noted (model s o n) past
-    → (a b : ℕ) → (reference-step (model s o n) (draw a b) .told ≡ refused-by 11) ↔ NothingLeft past
+pub draw-11 : (s : Setup) (o : Option Setup) (n : ℕ) → ValidReference (model s o n) → (past : List Slot) → Recorded (model s o n) past
+    → (a b : ℕ) → (reference-step (model s o n) (draw a b) .answer ≡ refused-by 11) ↔ NothingLeft past
 unfolding reference-step
 draw-11 s none n v [] h a b = (λ e. tt, λ e. refl)
 draw-11 s none n v (x ∷ past) h a b = (λ e. out (h .0) ∙ gone (h .0), λ e. refl)

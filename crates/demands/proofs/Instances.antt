@@ -3,13 +3,12 @@ use mathlib.Core.Path.{_≡_, refl}
 use mathlib.Core.List.{map}
 use lib.Count.{ones, onesIn}
 use Rattle.complex.specs.Arithmetic.{real, 𝟎, 𝟏, 𝐣, _⊕_, _⊗_, conj, j^, Σ<}
-use Rattle.complex.specs.Buffers.{listed}
+use Rattle.complex.specs.Buffers.{listed, _at_}
 use Rattle.codes.specs.Range.{each}
-use Rattle.codes.specs.Signs.{_at_}
 use Rattle.codes.specs.Tree.{element, at-or-above, related}
 use Rattle.codes.specs.Scrambling.{v, scrambling}
 use Rattle.codes.specs.SyncCodes.{repeated, Cp, z, hadamard, is-sync-code, C}
-use Rattle.codes.specs.Allocation.{code-set, row, signed, case-1, case-2, one-or-two, is-frame-and-half, allocation}
+use Rattle.codes.specs.Allocation.{code-set, allocation-row, signed, case-1, case-2, one-or-two, bad-frame-or-half, allocation}
 use Rattle.modulation.specs.Symbols.{symbol}
 use Rattle.slot.specs.Slot.{burst-type, channel-chip, data-chip, sync-chip, chip}
 use Rattle.analyser_parts.specs.Choice.{smallest-from, has-largest}
@@ -20,5 +19,5 @@ use Rattle.demands.specs.Instances.{Instance, table}
 
 -- What the definitions give is what document 01 states, for each instance of the table.
 pub instances : map (λ (i : Instance). i .given) table ≡ map (λ (i : Instance). i .stated) table
-unfolding table real 𝟎 𝟏 𝐣 _⊕_ _⊗_ conj j^ Σ< listed each _at_ element at-or-above related v scrambling repeated Cp z hadamard ones onesIn is-sync-code C code-set row signed case-1 case-2 one-or-two is-frame-and-half allocation symbol burst-type channel-chip data-chip sync-chip chip smallest-from has-largest reading pair-score hard-pair hard-bit with-channel
+unfolding table real 𝟎 𝟏 𝐣 _⊕_ _⊗_ conj j^ Σ< listed each _at_ element at-or-above related v scrambling repeated Cp z hadamard ones onesIn is-sync-code C code-set allocation-row signed case-1 case-2 one-or-two bad-frame-or-half allocation symbol burst-type channel-chip data-chip sync-chip chip smallest-from has-largest reading pair-score hard-pair hard-bit with-channel
 instances = refl

@@ -18,9 +18,9 @@ use Rattle.slot.specs.Setup.{Setup, is-some, is-open}
 use Rattle.slot.specs.Slot.{bit-count}
 use Rattle.slot.specs.Tables.{view}
 use Rattle.bench.specs.declared.Bench.{Bench}
-use Rattle.bench.specs.declared.Channel.{Channel as Record}
+use Rattle.bench.specs.declared.Channel.{Channel}
 use Rattle.bench.specs.Changes as Tables
-use Rattle.bench.specs.BenchCalls.{open-refusals, AnswerAt, refused-at, opened-in-turn, load-plan-call}
+use Rattle.bench.specs.BenchCalls.{open-refusals, AnswerAt, refused-at, opened-in-order, load-plan-call}
 use Rattle.bench.proofs.Accepted.{good-code, gain-range}
 use Rattle.orthogonality.proofs.SixteenCodes.{sixteen-codes}
 use Rattle.demands.specs.Reference.{opened, with-channel}
@@ -86,15 +86,15 @@ module _ (s : Setup) (n Q k g : ℕ) (t : Taken s n) (p : Passed (open-refusals 
       apart (suc i) (suc j) l h = t .apart i j (le-of-suc-le-suc l) (le-of-suc-le-suc h)
 
 -- with n codes taken, 17 - n more records decide
-decided : (b : Bench) (left n : ℕ) → left + n ≡ 17 → (s : Settings) → length (s .gains) ≡ 31 → Taken (view s) n → (place : ℕ) (cs : List Record)
-    → opened-in-turn place (Tables.with-settings b s) (take left cs) ≡ opened-in-turn place (Tables.with-settings b s) cs
-unfolding opened-in-turn
+decided : (b : Bench) (left n : ℕ) → left + n ≡ 17 → (s : Settings) → length (s .gains) ≡ 31 → Taken (view s) n → (place : ℕ) (cs : List Channel)
+    → opened-in-order place (Tables.with-settings b s) (take left cs) ≡ opened-in-order place (Tables.with-settings b s) cs
+unfolding opened-in-order
 decided b zero n e s z t place cs = absurd (omega (arith, sixteen-codes n (t .Q) (t .k) (t .code) (t .apart)))
 decided b (suc left) n e s z t place [] = refl
 decided b (suc left) n e s z t place (c ∷ cs) =
     alike (λ (x y : Answer Bench).
-    _≡_ {A = AnswerAt Bench} (elim x [ refused n ↦ refused-at n place | gives next ↦ opened-in-turn (suc place) next (take left cs) ])
-    (elim y [ refused n ↦ refused-at n place | gives next ↦ opened-in-turn (suc place) next cs ]))
+    _≡_ {A = AnswerAt Bench} (elim x [ refused n ↦ refused-at n place | gives next ↦ opened-in-order (suc place) next (take left cs) ])
+    (elim y [ refused n ↦ refused-at n place | gives next ↦ opened-in-order (suc place) next cs ]))
     (λ n. refl) (open-refusals (view s) (c .q) (c .k) (c .gain)) _ _
     (λ p.
     let code = good-code (c .q) (c .k) (p .0) (p .1 .0) .listed in
@@ -103,7 +103,7 @@ decided b (suc left) n e s z t place (c ∷ cs) =
     (subst (λ (x : Setup). Taken x (suc n)) (sym v) (one-more (view s) n (c .q) (c .k) (c .gain) t p)) (suc place) cs)
 
 -- So whoever holds 17 records of a plan of any length has all that load plan's answer and new bench depend on.
-pub first-17 : (b : Bench) (plan : List Record) → load-plan-call b (take 17 plan) ≡ load-plan-call b plan
+pub first-17 : (b : Bench) (plan : List Channel) → load-plan-call b (take 17 plan) ≡ load-plan-call b plan
 first-17 b plan = decided b 17 0 refl (Tables.all-closed (b .settings)) refl none-taken 0 plan
   where
     none-taken : Taken (view (Tables.all-closed (b .settings))) 0

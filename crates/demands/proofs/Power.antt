@@ -11,7 +11,7 @@ use Rattle.complex.proofs.Sums.{Σℤ-cong}
 use Rattle.slot.specs.Setup.{Setup}
 use Rattle.slot.specs.Slot.{data-chip, sync-chip, chip}
 use Rattle.demands.specs.Slots.{Slot}
-use Rattle.demands.specs.Fields.{Field, field-length, field-start, field-before, Drawn, no-burst, power-of-16, power-due}
+use Rattle.demands.specs.Fields.{Field, field-length, field-start, field-before, ChipsDrawn, no-burst, power-of-16, power-due}
 use Rattle.demands.specs.Valid.{Valid}
 use Rattle.demands.proofs.History.{Good}
 use Rattle.demands.proofs.FieldChips.{chip-in-field, unrelated}
@@ -20,7 +20,7 @@ use Rattle.orthogonality.proofs.DataPower.{data-power}
 
 -- The 16 chips from chip 16m of a field on, all drawn, no burst chip among them; the field need not be drawn whole.
 pub slot-power : (slot : Slot) → Good slot → (f : Field) (m : ℕ)
-    → (let s = slot .settings in 16 * m + 16 ≤ field-length s f → Drawn slot (field-start s f + 16 * m) 16
+    → (let s = slot .settings in 16 * m + 16 ≤ field-length s f → ChipsDrawn slot (field-start s f + 16 * m) 16
     → no-burst s (field-start s f + 16 * m) 16 ≡ true → power-of-16 slot (field-start s f + 16 * m) ≡ power-due s)
 slot-power slot g f m inside drawn quiet =
     Σℤ-cong 16 _ _ (λ n l. ap squared-size (chip-is n l))

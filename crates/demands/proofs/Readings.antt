@@ -26,11 +26,11 @@ reading-additive p Q k x y n =
 scrambled-within : {m : ℕ} {x : Complex} (p i : ℕ) → Both m x → Both m (x ⊗ conj (scrambling p (1 + i)))
 unfolding scrambling
 scrambled-within {m} {x} p i h =
-    subst (Both m) (turn (j^ (1 + i)) (real (v p (1 + i))) x)
+    subst (Both m) (conjugated (j^ (1 + i)) (real (v p (1 + i))) x)
     (both-conj (both-j^ (both-sign (both-conj h) (subst (λ (k : ℕ). Within 1 (v p k)) (add-comm i 1) (v-within p i))) (1 + i)))
   where
-    turn : (u w x : Complex) → conj (u ⊗ (w ⊗ conj x)) ≡ x ⊗ conj (u ⊗ w)
-    turn u w x = simp (conj-⊗, conj-conj, products)
+    conjugated : (u w x : Complex) → conj (u ⊗ (w ⊗ conj x)) ≡ x ⊗ conj (u ⊗ w)
+    conjugated u w x = simp (conj-⊗, conj-conj, products)
 
 pub reading-within : (p Q k m : ℕ) (x : ℕ → Complex) (n : ℕ) → ((i : ℕ) → i < Q → Both m (x (n * Q + i))) → Both (Q * m) (reading p Q k x n)
 unfolding reading

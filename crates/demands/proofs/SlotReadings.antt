@@ -15,13 +15,13 @@ use Rattle.complex.proofs.Ring.{⊕-𝟎}
 use Rattle.complex.proofs.Sizes.{within-more}
 use Rattle.codes.specs.Refusals.{gives}
 use Rattle.codes.specs.Tree.{is-code, related}
-use Rattle.slot.specs.Setup.{Channel, Setup, is-some, is-open}
+use Rattle.slot.specs.Setup.{ChannelSetup, Setup, is-some, is-open}
 use Rattle.slot.specs.Slot.{data-chip, sync-chip, chip}
 use Rattle.analyser_parts.specs.Components.{outside}
 use Rattle.analyser_parts.proofs.Ranges.{none-outside}
 use Rattle.orthogonality.proofs.Unrelated.{Free}
 use Rattle.orthogonality.proofs.DataReadings.{own-data, unrelated-data}
-use Rattle.demands.specs.Reference.{with-sync}
+use Rattle.demands.specs.Reference.{sync-changed}
 use Rattle.demands.specs.Slots.{Slot}
 use Rattle.demands.specs.Fields.{Field, field-length, field-start, field-before, DrawnWhole, drawn-field, reading-count, Suffice, own-readings, unrelated, zero-readings, no-burst, burst-field, quiet-field, added}
 use Rattle.demands.specs.Valid.{Valid}
@@ -33,10 +33,10 @@ use Rattle.demands.proofs.FieldReadings.{in-buffers-cong, silent-readin
 
 -- ---- what the data of a field reads
 module _ (s : Setup) (v : Valid s) (f : Field) (Q k : ℕ) where
-  is-code-of : (c : Channel) → s .channel Q k ≡ some c → is-code Q k ≡ true
+  is-code-of : (c : ChannelSetup) → s .channel Q k ≡ some c → is-code Q k ≡ true
   is-code-of c e = v .code Q k (ap is-some e)
 
-  pub own-of-data : (c : Channel) → s .channel Q k ≡ some c → in-buffers (reading-count s f Q) (of-data s f Q k) ≡ own-readings s f Q c
+  pub own-of-data : (c : ChannelSetup) → s .channel Q k ≡ some c → in-buffers (reading-count s f Q) (of-data s f Q k) ≡ own-readings s f Q c
   own-of-data c e =
       in-buffers-cong (reading-count s f Q) _ _
       (λ n l. own-data s (v .cell) (field-before s f) Q k (is-code-of c e) c e (λ Q′ k′ c′ o r. v .apart Q k Q′ k′ (ap is-some e) o r) n)
@@ -62,10 +62,10 @@ module _ (s : Setup) (v : Valid s) (f : Field) (Q k : ℕ) (c : is-code Q k ≡ 
   pub quiet-reads : read-of s Q k (quiet-field s f) out ≡ gives (in-buffers (reading-count s f Q) (of-data s f Q k))
   unfolding data-chip sync-chip
   quiet-reads =
-      read-gives (s .cell) Q k (field-length s f) (λ q. chip (with-sync s none) (field-start s f + q)) (v .cell) c (readable s (v .type) f)
-      (λ q l. chip-within (with-sync s none) (sync-cleared-valid s v) _) (length (out .re)) (length (out .im)) (w .re) (w .im)
+      read-gives (s .cell) Q k (field-length s f) (λ q. chip (sync-changed s none) (field-start s f + q)) (v .cell) c (readable s (v .type) f)
+      (λ q l. chip-within (sync-changed s none) (sync-cleared-valid s v) _) (length (out .re)) (length (out .im)) (w .re) (w .im)
       ∙ ap gives (in-buffers-cong (reading-count s f Q) _ _
-      (field-cong (s .cell) Q k (field-length s f) _ _ (λ q l. chip-in-field (with-sync s none) f q l ∙ ⊕-𝟎 (data-chip s (field-before s f) q))))
+      (field-cong (s .cell) Q k (field-length s f) _ _ (λ q l. chip-in-field (sync-changed s none) f q l ∙ ⊕-𝟎 (data-chip s (field-before s f) q))))
 
   pub burst-reads : read-of s Q k (burst-field s f) out ≡ gives (in-buffers (reading-count s f Q) (of-burst s f Q k))
   burst-reads =
@@ -91,7 +91,7 @@ module _ (slot : Slot) (g : Good slot) where
         reads slot (g .valid) (g .in-order) f Q k c whole out w
         ∙ ap gives (in-buffers-cong (reading-count s f Q) _ _ (no-burst-reading s (g .valid) f Q k e))
 
-    pub own-reads : (c : Channel) → s .channel Q k ≡ some c → no-burst s (field-start s f) (field-length s f) ≡ true
+    pub own-reads : (c : ChannelSetup) → s .channel Q k ≡ some c → no-burst s (field-start s f) (field-length s f) ≡ true
         → read-of s Q k (drawn-field slot f) out ≡ gives (own-readings s f Q c)
     own-reads c e n = data-reads (is-code-of s (g .valid) f Q k c e) n ∙ ap gives (own-of-data s (g .valid) f Q k c e)
 

@@ -22,15 +22,15 @@ use Rattle.slot.specs.Slot.{slot-length, bit-count, chip}
 use Rattle.slot.specs.Tables.{view}
 use Rattle.tables.proofs.Blocks.{is-bit}
 use Rattle.bench.specs.declared.Bench.{Bench}
-use Rattle.bench.specs.declared.Channel.{Channel as Record}
+use Rattle.bench.specs.declared.Channel.{Channel}
 use Rattle.bench.specs.Changes as Tables
-use Rattle.bench.specs.BenchCalls.{under-way, fresh, set-cell-refusals, open-refusals, bad-gain, refused-at, opened-in-turn, close-refusals, set-gain-refusals, load-bits-refusals, set-sync-refusals, start-refusals, Draw, draw-refusals, moved-on}
+use Rattle.bench.specs.BenchCalls.{is-running, fresh, set-cell-refusals, open-refusals, bad-gain, refused-at, opened-in-order, close-refusals, set-gain-refusals, load-bits-refusals, set-sync-refusals, start-refusals, Draw, draw-refusals, moved-on}
 use Rattle.bench.proofs.Accepted.{good-code, gain-range}
 use Rattle.demands.specs.Calls.{Call, set-cell, open-code, load-plan, close, set-gain, load-bits, set-sync, clear-sync, start, draw, drew, Step}
-use Rattle.demands.specs.Reference.{Reference, fresh-reference, opened, closed, gain-set, bits-loaded, with-sync, records-opened, under-way as copy-there, by-entry, by-plan, started, copy-chip, drawn, reference-step, fed}
+use Rattle.demands.specs.Reference.{Reference, fresh-reference, opened, closed, gain-set, bits-loaded, sync-changed, records-opened, under-way, entry-step, plan-step, start-step, copy-chip, draw-step, reference-step, arguments}
 use Rattle.demands.specs.Runs.{Ran}
 use Rattle.demands.specs.Valid.{Valid, ValidReference}
-use Rattle.demands.proofs.BenchSteps.{bench-step, called, planned, drawn as bench-drawn}
+use Rattle.demands.proofs.BenchSteps.{bench-step, bench-called, bench-planned, bench-drawn}
 use Rattle.demands.proofs.Contracts.{ran-step}
 use Rattle.demands.proofs.TableLaws.{view-cell-set, view-nothing-open, view-sync-set, view-sync-cleared, view-opened, view-closed, view-gain-set, view-bits-loaded}
 use Rattle.demands.proofs.Otherwise.{alike}
@@ -39,11 +39,11 @@ use Rattle.demands.proofs.Valid.{only-itself, cell-set-valid, opened-va
 -- the reference model that a bench stands for
 abbrev pub reference-of : Bench → Reference
 reference-of b =
-    record { settings = view (b .settings); sending = cond (under-way b) (some (view (b .sending))) none; sent = b .position }
+    record { settings = view (b .settings); sending = cond (is-running b) (some (view (b .sending))) none; sent = b .position }
 
--- a step of the bench, seen in the reference model
-abbrev pub seen : Step Bench → Step Reference
-seen y = record { told = y .told; next = reference-of (y .next) }
+-- the step of the reference model that a step of the bench stands for
+abbrev pub step-of : Step Bench → Step Reference
+step-of y = record { answer = y .answer; next = reference-of (y .next) }
 
 -- ---- the bench's invariant
 pub record Sized (b : Bench) : Type 0 where
@@ -61,7 +61,7 @@ record ValidTables (s : Settings) : Type 0 where
 
 -- a step of the reference model is the bench's, and leaves a valid bench
 pub record Steps (x : Step Reference) (y : Step Bench) : Type 0 where
-  pub same : x ≡ seen y
+  pub same : x ≡ step-of y
   pub valid : ValidBench (y .next)
 
 -- new tables are what the entry makes of the settings
@@ -108,7 +108,7 @@ module _ (s : Settings) (h : ValidTables s) where
 
   setting-sync : (case frame half gP gS : ℕ) → Passed (set-sync-refusals (view s) case frame half gP gS)
       → Change (Tables.with-sync s (record { on = 1; case = case; frame = frame; half = half; gp = gP; gs = gS }))
-      (with-sync (view s) (some (record { case = case; frame = frame; half = half; gP = gP; gS = gS })))
+      (sync-changed (view s) (some (record { case = case; frame = frame; half = half; gP = gP; gS = gS })))
   unfolding view
   setting-sync case frame half gP gS p =
       record {
@@ -119,8 +119,8 @@ module _ (s : Settings) (h : ValidTables s) where
 
 -- ---- the air
 -- a slot is under way in both, or in none
-air : (b : Bench) → copy-there (reference-of b) ≡ under-way b
-air b = go (under-way b)
+air : (b : Bench) → under-way (reference-of b) ≡ is-running b
+air b = go (is-running b)
   where
     go : (t : Bool) → is-some (cond t (some (view (b .sending))) none) ≡ t
     go true = refl
@@ -161,21 +161,21 @@ module _ (b : Bench) (v : ValidBench b) where
 
   -- "Each accepted call but start and draw changes the settings by its entry."
   entry : (rs : List Refusal) {s : Settings} {t : Setup} → (Passed rs → Change s t)
-      → Steps (by-entry (reference-of b) (rs otherwise t)) (called b (rs otherwise Tables.with-settings b s))
+      → Steps (entry-step (reference-of b) (rs otherwise t)) (bench-called b (rs otherwise Tables.with-settings b s))
   entry rs {s} {t} h =
-      alike (λ (x : Answer Setup) (y : Answer Bench). Steps (by-entry (reference-of b) x) (called b y)) (λ n. record { same = refl; valid = v })
+      alike (λ (x : Answer Setup) (y : Answer Bench). Steps (entry-step (reference-of b) x) (bench-called b y)) (λ n. record { same = refl; valid = v })
       rs t (Tables.with-settings b s)
       (λ p. record { same = rw (← (h p .view)); valid = with-tables (new-tables (h p)) })
 
   -- Load plan: record after record, each on what the earlier ones left
-  plan-opened : (place : ℕ) (s : Settings) (cs : List Record) → ValidTables s
-      → Steps (by-plan (reference-of b) (records-opened place (view s) cs)) (planned b (opened-in-turn place (Tables.with-settings b s) cs))
-  unfolding records-opened opened-in-turn
+  plan-opened : (place : ℕ) (s : Settings) (cs : List Channel) → ValidTables s
+      → Steps (plan-step (reference-of b) (records-opened place (view s) cs)) (bench-planned b (opened-in-order place (Tables.with-settings b s) cs))
+  unfolding records-opened opened-in-order
   plan-opened place s [] h = record { same = refl; valid = with-tables h }
   plan-opened place s (c ∷ cs) h =
       alike (λ (x : Answer Setup) (y : Answer Bench).
-      Steps (by-plan (reference-of b) (elim x [ refused n ↦ refused-at n place | gives next ↦ records-opened (suc place) next cs ]))
-      (planned b (elim y [ refused n ↦ refused-at n place | gives next ↦ opened-in-turn (suc place) next cs ])))
+      Steps (plan-step (reference-of b) (elim x [ refused n ↦ refused-at n place | gives next ↦ records-opened (suc place) next cs ]))
+      (bench-planned b (elim y [ refused n ↦ refused-at n place | gives next ↦ opened-in-order (suc place) next cs ])))
       (λ n. record { same = refl; valid = v })
       (open-refusals (view s) (c .q) (c .k) (c .gain)) (opened (view s) (c .q) (c .k) (c .gain)) _
       (λ p. let o = opening s h (c .q) (c .k) (c .gain) p in rw (← (o .view)) (plan-opened (suc place) _ cs (new-tables o)))
@@ -197,15 +197,15 @@ module _ (b : Bench) (v : ValidBench b) where
   unfolding reference-step bench-step
   start-steps =
       rw (air b)
-      (alike (λ (x : Answer (Unit {0})) (y : Answer Bench). Steps (started (reference-of b) x) (called b y)) (λ n. record { same = refl; valid = v })
-      (start-refusals (under-way b)) tt (record { settings = b .settings; running = 1; sending = b .settings; position = 0 })
+      (alike (λ (x : Answer (Unit {0})) (y : Answer Bench). Steps (start-step (reference-of b) x) (bench-called b y)) (λ n. record { same = refl; valid = v })
+      (start-refusals (is-running b)) tt (record { settings = b .settings; running = 1; sending = b .settings; position = 0 })
       (λ p. record { same = refl; valid = started-valid }))
 
   -- An accepted draw gets m chips of the copy's slot, "the tally grows by m, and at 2,560 the copy goes".
-  chips-drawn : (re im : List ℤ) (m : ℕ) → b .position + m ≤ slot-length → under-way b ≡ true
-      → drawn (reference-of b) m (gives tt) ≡ seen (bench-drawn b re im (gives (draw-of b m)))
+  chips-drawn : (re im : List ℤ) (m : ℕ) → b .position + m ≤ slot-length → is-running b ≡ true
+      → draw-step (reference-of b) m (gives tt) ≡ step-of (bench-drawn b re im (gives (draw-of b m)))
   chips-drawn re im m l e =
-      ap₂ (λ (x : Values) (o : Option Setup). record { told = drew m x; next = record { settings = view (b .settings); sending = o; sent = b .position + m } })
+      ap₂ (λ (x : Values) (o : Option Setup). record { answer = drew m x; next = record { settings = view (b .settings); sending = o; sent = b .position + m } })
       (ap (λ (o : Option Setup). in-buffers m (λ i. copy-chip o (b .position + i))) copy
       ∙ left-in-buffers m (λ i. chip (view (b .sending)) (b .position + i)) re im)
       (ap (λ (o : Option Setup). cond (eqb (b .position + m) slot-length) none o) copy
@@ -233,18 +233,18 @@ module _ (b : Bench) (v : ValidBench b) where
       let m : ℕ = min (length re) (slot-length - b .position) in
       let l : b .position + m ≤ slot-length = omega (arith, v .model .at-most) in
       rw (air b)
-      (alike (λ (x : Answer (Unit {0})) (y : Answer Draw). Steps (drawn (reference-of b) m x) (bench-drawn b re im y)) (λ n. record { same = refl; valid = v })
-      (draw-refusals (under-way b) (length re) (length im)) tt (draw-of b m)
+      (alike (λ (x : Answer (Unit {0})) (y : Answer Draw). Steps (draw-step (reference-of b) m x) (bench-drawn b re im y)) (λ n. record { same = refl; valid = v })
+      (draw-refusals (is-running b) (length re) (length im)) tt (draw-of b m)
       (λ p. record { same = chips-drawn re im m l (not-false _ (p .0)); valid = moved-valid m l }))
 
-  step : (c : Call (List ℤ)) → Steps (reference-step (reference-of b) (fed c)) (bench-step b c)
-  unfolding reference-step bench-step fed
+  step : (c : Call (List ℤ)) → Steps (reference-step (reference-of b) (arguments c)) (bench-step b c)
+  unfolding reference-step bench-step arguments
   step (set-cell p t) = entry (set-cell-refusals p t) (λ h. record { view = view-cell-set (record { 0 = p }) t (b .settings .pairs); gains = refl; valid = cell-set-valid p t h })
   step (open-code Q k g) = entry (open-refusals (view (b .settings)) Q k g) (opening (b .settings) own Q k g)
   step (load-plan plan) =
       let e = view-nothing-open (b .settings) in
       let w = nothing-open-valid (view (b .settings)) (own .valid) in
-      subst (λ (s : Setup). Steps (by-plan (reference-of b) (records-opened 0 s plan)) (bench-step b (load-plan plan))) e
+      subst (λ (s : Setup). Steps (plan-step (reference-of b) (records-opened 0 s plan)) (bench-step b (load-plan plan))) e
       (plan-opened 0 (Tables.all-closed (b .settings)) plan (record { gains = refl; valid = subst Valid (sym e) w }))
   step (close Q k) = entry (close-refusals (view (b .settings)) Q k) (closing (b .settings) own Q k)
   step (set-gain Q k g) = entry (set-gain-refusals (view (b .settings)) Q k g) (setting-gain (b .settings) own Q k g)
@@ -256,8 +256,8 @@ module _ (b : Bench) (v : ValidBench b) where
   step (draw re im) = draw-steps re im
 
   -- what a function gave and left
-  pub ran-steps : {c : Call (List ℤ)} {y : Step Bench} → Ran b c y → Steps (reference-step (reference-of b) (fed c)) y
-  ran-steps {c} h = subst (Steps (reference-step (reference-of b) (fed c))) (sym (ran-step h)) (step c)
+  pub ran-steps : {c : Call (List ℤ)} {y : Step Bench} → Ran b c y → Steps (reference-step (reference-of b) (arguments c)) y
+  ran-steps {c} h = subst (Steps (reference-step (reference-of b) (arguments c))) (sym (ran-step h)) (step c)
 
 -- ---- the fresh bench
 -- "at first the fresh settings, no copy, tally 0"

@@ -11,7 +11,7 @@ use Rattle.complex.specs.Arithmetic.{_+j_, real, _⊗_, conj, Σ<, Σℤ<}
 use Rattle.complex.proofs.Integers.{*ℤ-swap}
 use Rattle.complex.proofs.Ring.{products, ⊗-swap, conj-⊗, conj-real, real-*ℤ}
 use Rattle.complex.proofs.Sums.{Σ-cong, Σ-blocks, ⊗-Σ, real-Σ}
-use Rattle.codes.specs.Signs.{_at_}
+use Rattle.complex.specs.Buffers.{_at_}
 use Rattle.codes.specs.Range.{each}
 use Rattle.codes.specs.SyncCodes.{a, a-signs, b, b-signs, Cp, C, hadamard, hadamard-part, is-sync-code}
 use Rattle.codes.proofs.Tests.{each-at, same, same→eq}
@@ -86,18 +86,18 @@ module _ (x y : ℕ) (t : T (has-code x)) (u : T (has-code y)) where
 
 -- ---- the one test, and the one law
 -- what two codes correlate to
-abbrev pub overlap : ℕ → ℕ → ℤ
-overlap x y = cond (eqb x y) (pos 512) (pos 0)
+abbrev pub equal-512 : ℕ → ℕ → ℤ
+equal-512 x y = cond (eqb x y) (pos 512) (pos 0)
 
-overlaps : ℕ → ℕ → Bool
-overlaps x y = same ((pos 2 *ℤ inner (chip-sign x) (chip-sign y)) *ℤ inner (part-sign x) (part-sign y)) (overlap x y)
+sums-to-512 : ℕ → ℕ → Bool
+sums-to-512 x y = same ((pos 2 *ℤ inner (chip-sign x) (chip-sign y)) *ℤ inner (part-sign x) (part-sign y)) (equal-512 x y)
 
-overlaps-test : T (each 17 (λ x. each 17 (overlaps x)))
-unfolding each overlaps same inner part-sign chip-sign Σℤ< _at_ hadamard-part hadamard ones onesIn
-overlaps-test = tt
+sums-to-512-test : T (each 17 (λ x. each 17 (sums-to-512 x)))
+unfolding each sums-to-512 same inner part-sign chip-sign Σℤ< _at_ hadamard-part hadamard ones onesIn
+sums-to-512-test = tt
 
-pub orthogonal : (x y : ℕ) → T (has-code x) → T (has-code y) → correlation (sync-code x) (sync-code y) ≡ real (overlap x y)
-unfolding overlaps
+pub orthogonal : (x y : ℕ) → T (has-code x) → T (has-code y) → correlation (sync-code x) (sync-code y) ≡ real (equal-512 x y)
+unfolding sums-to-512
 orthogonal x y t u =
     by-sums x y t u
-    ∙ ap real (same→eq _ (overlap x y) (each-at 17 (overlaps x) (each-at 17 (λ x. each 17 (overlaps x)) overlaps-test x (has-code-below x t)) y (has-code-below y u)))
+    ∙ ap real (same→eq _ (equal-512 x y) (each-at 17 (sums-to-512 x) (each-at 17 (λ x. each 17 (sums-to-512 x)) sums-to-512-test x (has-code-below x t)) y (has-code-below y u)))

@@ -14,7 +14,7 @@ use Rattle.codes.specs.Refusals.{Answer, gives}
 use Rattle.codes.specs.Tree.{is-code}
 use Rattle.codes.specs.Scrambling.{code-group}
 use Rattle.codes.specs.Burst.{burst-start}
-use Rattle.slot.specs.Setup.{Channel, SyncSetup, Setup}
+use Rattle.slot.specs.Setup.{ChannelSetup, SyncSetup, Setup}
 use Rattle.bench.specs.declared.Bench.{Bench}
 use Rattle.bench.specs.BenchCalls.{fresh}
 use Rattle.analyser_parts.specs.Components.{outside}
@@ -22,11 +22,11 @@ use Rattle.harden.specs.Hardening.{harden-call}
 use Rattle.read_sync.specs.declared.Candidate.{Candidate}
 use Rattle.read_sync.specs.SyncReading.{of-group}
 use Rattle.demands.specs.Calls.{Call, draw, refused-by, Step}
-use Rattle.demands.specs.Reference.{Reference, fresh-reference, fed, told-by, left-after}
-use Rattle.demands.specs.Runs.{Ran, RunFrom, ended, _then_, Run, told-in, left-in}
+use Rattle.demands.specs.Reference.{Reference, fresh-reference, arguments, answers-by, left-after}
+use Rattle.demands.specs.Runs.{Ran, RunFrom, ended, _then_, Run, answers-in, left-in}
 use Rattle.demands.specs.AnalyserRuns.{Output, RanReadSync, wrote}
 use Rattle.demands.specs.Slots.{Slot, slots, InOrder, NothingLeft}
-use Rattle.demands.specs.Fields.{Field, field-length, field-start, Drawn, DrawnWhole, chips-from, drawn-field, reading-count, FieldRead, readings, own-readings, unrelated, zero-readings, no-burst, burst-field, quiet-field, added, BurstAdds, power-of-16, power-due, FieldHardened, HardBits, AllHardBits}
+use Rattle.demands.specs.Fields.{Field, field-length, field-start, ChipsDrawn, DrawnWhole, chips-from, drawn-field, reading-count, FieldRead, readings, own-readings, unrelated, zero-readings, no-burst, burst-field, quiet-field, added, BurstAdds, power-of-16, power-due, FieldHardened, HardBits, AllHardBits}
 use Rattle.demands.specs.Valid.{Valid}
 use Rattle.demands.proofs.Steps.{reference-of, ValidBench, ran-steps}
 use Rattle.demands.proofs.BurstDrawn.{slot-burst}
@@ -36,7 +36,7 @@ use Rattle.demands.proofs.FieldReadings.{of-data, of-burst}
 use Rattle.demands.proofs.HardBits.{no-burst-anywhere, own-bits, all-bits}
 use Rattle.demands.proofs.History.{Good, all-at, draw-11}
 use Rattle.demands.proofs.Power.{slot-power}
-use Rattle.demands.proofs.Runs.{first-same, run-holds, run-noted, run-good}
+use Rattle.demands.proofs.Runs.{first-same, run-holds, run-recorded, run-good}
 use Rattle.demands.proofs.SlotReadings.{own-of-data, zero-of-data, quiet-reads, burst-reads, none-too-large, own-reads, zero-reads, sum-reads}
 
 -- "The list has any length, also 0, and any arguments.": every list has a run, so that what is said of every run is said of every list
@@ -61,24 +61,24 @@ readings-are {s} {f} {Q} {k} {chips} x g e =
 module _ (run : Run) where
   -- Demand 3: "the refusals, counts and drawn chips are those of document 01's ledger". "At every call of the list the bench gives the ledger's number, place
   -- and count, or none where the ledger has none, and an accepted draw leaves the ledger's m chips in the first m entries of its two buffers."
-  pub answers : told-in (run .steps) ≡ told-by fresh-reference (map fed (run .calls))
-  answers = run-holds run .told ∙ ap (λ (r : Reference). told-by r (map fed (run .calls))) (first-same run)
+  pub answers : answers-in (run .steps) ≡ answers-by fresh-reference (map arguments (run .calls))
+  answers = run-holds run .answers ∙ ap (λ (r : Reference). answers-by r (map arguments (run .calls))) (first-same run)
 
   -- the bench that it leaves stands for the reference model that the calls leave, and is one that calls can make
-  pub reached : left-after fresh-reference (map fed (run .calls)) ≡ reference-of (left-in run)
-  reached = ap (λ (r : Reference). left-after r (map fed (run .calls))) (sym (first-same run)) ∙ run-holds run .left
+  pub reached : left-after fresh-reference (map arguments (run .calls)) ≡ reference-of (left-in run)
+  reached = ap (λ (r : Reference). left-after r (map arguments (run .calls))) (sym (first-same run)) ∙ run-holds run .left
 
   pub bench-valid : ValidBench (left-in run)
   bench-valid = run-holds run .valid
 
   -- "A draw is refused 11 exactly when no start was accepted yet or all 2,560 chips of the last accepted one are out."
-  pub refused-11 : (re im : List ℤ) (y : Step Bench) → Ran (left-in run) (draw re im) y → (y .told ≡ refused-by 11) ↔ NothingLeft (slots run)
-  unfolding fed
+  pub refused-11 : (re im : List ℤ) (y : Step Bench) → Ran (left-in run) (draw re im) y → (y .answer ≡ refused-by 11) ↔ NothingLeft (slots run)
+  unfolding arguments
   refused-11 re im y h =
       let b = left-in run in
       let r = reference-of b in
-      rw (← (ap (λ (z : Step Reference). z .told) (ran-steps b bench-valid h .same)))
-      (draw-11 (r .settings) (r .sending) (r .sent) (bench-valid .model) (slots run) (run-noted run) (length re) (length im))
+      rw (← (ap (λ (z : Step Reference). z .answer) (ran-steps b bench-valid h .same)))
+      (draw-11 (r .settings) (r .sending) (r .sent) (bench-valid .model) (slots run) (run-recorded run) (length re) (length im))
 
   -- ---- every accepted start, whatever calls fall between
   module _ (slot : Slot) (i : List·Memᴰ slot (slots run)) where
@@ -102,20 +102,20 @@ module _ (run : Run) where
 
     -- "Where none falls, counted from a field's start, the squared components of each 16 data chips add up to 16 times the sum of the squared gains.": the 16
     -- chips from chip 16m of a field on; the field need not be drawn whole
-    pub power : (f : Field) (m : ℕ) → 16 * m + 16 ≤ field-length s f → Drawn slot (field-start s f + 16 * m) 16
+    pub power : (f : Field) (m : ℕ) → 16 * m + 16 ≤ field-length s f → ChipsDrawn slot (field-start s f + 16 * m) 16
         → no-burst s (field-start s f + 16 * m) 16 ≡ true → power-of-16 slot (field-start s f + 16 * m) ≡ power-due s
     power = slot-power slot good
 
     -- Demand 2: "a sync burst standing alone, read with its own case, comes back as the group, frame and slot it was made for"
     pub burst-drawn : (y : SyncSetup) → s .sync ≡ some y → ((Q k : ℕ) → s .channel Q k ≡ none)
-        → (let g = code-group (s .cell) in let x = burst-start g in Drawn slot x 256
+        → (let g = code-group (s .cell) in let x = burst-start g in ChipsDrawn slot x 256
         → (t : Answer Candidate) → RanReadSync (y .case) (chips-from slot x 256) t → t ≡ gives (of-group g (y .frame) (y .half)))
     burst-drawn y e nothing drawn t h = read-sync-meets h ∙ slot-burst slot good y e nothing drawn
 
     -- ---- "When a data field drawn whole is read with that start's cell parameter":
     module _ (f : Field) (whole : DrawnWhole slot f) (Q k : ℕ) (x : FieldRead s f Q k (drawn-field slot f)) where
       -- "each reading of a code open at that start is its spreading factor times its gain times its own symbol", in a field into which no burst falls
-      pub own-reading : (c : Channel) → s .channel Q k ≡ some c → no-burst s (field-start s f) (field-length s f) ≡ true → x .read ≡ wrote (own-readings s f Q c) (x .out)
+      pub own-reading : (c : ChannelSetup) → s .channel Q k ≡ some c → no-burst s (field-start s f) (field-length s f) ≡ true → x .read ≡ wrote (own-readings s f Q c) (x .out)
       own-reading c e n = read-meets (x .ran) (own-reads slot good f whole Q k (x .out) (x .suffice) c e n)
 
       -- "and each of a code unrelated to all of those is zero, whatever the others send"
@@ -137,12 +137,12 @@ module _ (run : Run) where
             own = b ∙ ap (λ (v : Values). wrote v (burst .out)) (sym of-alone);
             sum = read-meets (x .ran) (sum-reads slot good f whole Q k (x .out) (x .suffice) c)
                 ∙ ap₂ (λ (v w : Values). wrote (added n v w) (x .out)) (sym of-quiet) (sym of-alone);
-            open-code = λ c e. of-quiet ∙ own-of-data s (good .valid) f Q k c e;
-            unrelated-code = λ e. of-quiet ∙ zero-of-data s (good .valid) f Q k c e;
+            if-open = λ c e. of-quiet ∙ own-of-data s (good .valid) f Q k c e;
+            if-unrelated = λ e. of-quiet ∙ zero-of-data s (good .valid) f Q k c e;
           }
 
     -- ---- Demand 2: "hardening the readings of a channel in a slot without sync yields the bits it held when that slot started"
-    module _ (Q k : ℕ) (c : Channel) (no-sync : s .sync ≡ none) (e : s .channel Q k ≡ some c) where
+    module _ (Q k : ℕ) (c : ChannelSetup) (no-sync : s .sync ≡ none) (e : s .channel Q k ≡ some c) where
       pub hard-bits : (f : Field) → DrawnWhole slot f → (x : FieldHardened s f Q k (drawn-field slot f)) → HardBits s f Q k (drawn-field slot f) c x
       hard-bits f whole x =
           let r = own-reading f whole Q k (x .field) c e (no-burst-anywhere s no-sync (field-start s f) (field-length s f)) in

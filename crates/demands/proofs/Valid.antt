@@ -12,21 +12,21 @@ use lib.Dec.{T, eqb, eqb→eq}
 use lib.ListN.{getD, replicate, length-replicate}
 use mir.Facts.{and-yes}
 use Rattle.codes.specs.Tree.{among, is-code, at-or-above, related}
-use Rattle.codes.specs.Allocation.{one-or-two, is-frame-and-half}
+use Rattle.codes.specs.Allocation.{one-or-two}
 use Rattle.codes.proofs.Refused.{Passed}
 use Rattle.codes.proofs.Tests.{neither}
-use Rattle.slot.specs.Setup.{Channel, SyncSetup, Setup, is-some, is-open}
+use Rattle.slot.specs.Setup.{ChannelSetup, SyncSetup, Setup, is-some, is-open}
 use Rattle.slot.specs.Slot.{bit-count}
 use Rattle.tables.proofs.Blocks.{is-bit}
 use Rattle.bench.specs.BenchCalls.{bad-gain, related-to-open, set-cell-refusals, open-refusals, close-refusals, set-gain-refusals, load-bits-refusals, set-sync-refusals}
 use Rattle.bench.proofs.Accepted.{good-code, gain-range}
-use Rattle.demands.specs.Reference.{cell-set, fresh-reference, with-channel, opened, closed, changed, gain-set, bits-loaded, with-sync, nothing-open}
-use Rattle.demands.specs.Valid.{Held, HeldSync, Valid, ValidReference}
+use Rattle.demands.specs.Reference.{cell-set, fresh-reference, with-channel, opened, closed, channel-changed, gain-set, bits-loaded, sync-changed, nothing-open}
+use Rattle.demands.specs.Valid.{ValidChannel, ValidSync, Valid, ValidReference}
 use Rattle.demands.proofs.Entries.{code-of, no-code-passes}
 use Rattle.demands.proofs.TableLaws.{OnlyItself}
 
 -- ---- settings with nothing open
-none-open-valid : (p t : ℕ) (y : Option SyncSetup) → p < 128 → among t (1 ∷ 2 ∷ 3 ∷ []) ≡ true → ((z : SyncSetup) → y ≡ some z → HeldSync t z)
+none-open-valid : (p t : ℕ) (y : Option SyncSetup) → p < 128 → among t (1 ∷ 2 ∷ 3 ∷ []) ≡ true → ((z : SyncSetup) → y ≡ some z → ValidSync t z)
     → Valid (record { cell = p; type = t; channel = λ Q k. none; sync = y })
 none-open-valid p t y c d f =
     record {
@@ -38,7 +38,7 @@ none-open-valid p t y c d f =
       sync = f;
     }
 
-no-sync-held : (t : ℕ) (y : SyncSetup) → none ≡ some y → HeldSync t y
+no-sync-held : (t : ℕ) (y : SyncSetup) → none ≡ some y → ValidSync t y
 no-sync-held t y e = absurd (Option·none-ne-some y e)
 
 pub cell-set-valid : (p t : ℕ) → Passed (set-cell-refusals p t) → Valid (cell-set p t)
@@ -66,7 +66,7 @@ Was s Q k Q′ k′ = ((Q′ ≡ Q) × (k′ ≡ k)) ⊎ (is-open s Q′ k′ �
 
 -- the code is a code, unrelated to the open ones but itself, and what it then holds is in its ranges
 module _ (s : Setup) (v : Valid s) (Q k : ℕ) (listed : is-code Q k ≡ true) (alone : OnlyItself s Q k)
-    (o : Option Channel) (held : (c : Channel) → o ≡ some c → Held (s .type) Q c) where
+    (o : Option ChannelSetup) (held : (c : ChannelSetup) → o ≡ some c → ValidChannel (s .type) Q c) where
   was-open : (Q′ k′ : ℕ) → is-open (with-channel s Q k o) Q′ k′ ≡ true → Was s Q k Q′ k′
   unfolding with-channel
   was-open Q′ k′ h = go (eqb Q′ Q && eqb k′ k) refl h
@@ -86,11 +86,11 @@ module _ (s : Setup) (v : Valid s) (Q k : ℕ) (listed : is-code Q k ≡ true) (
   apart-then Q₁ k₁ Q₂ k₂ (inr h) (inl f) r = let e = alone Q₁ k₁ h (rw (f .0, f .1, related-sym Q k Q₁ k₁) at r) in (f .0 ∙ sym (e .0), f .1 ∙ sym (e .1))
   apart-then Q₁ k₁ Q₂ k₂ (inr h) (inr i) r = v .apart Q₁ k₁ Q₂ k₂ h i r
 
-  held-then : (Q′ k′ : ℕ) (c : Channel) → with-channel s Q k o .channel Q′ k′ ≡ some c → Held (s .type) Q′ c
+  held-then : (Q′ k′ : ℕ) (c : ChannelSetup) → with-channel s Q k o .channel Q′ k′ ≡ some c → ValidChannel (s .type) Q′ c
   unfolding with-channel
   held-then Q′ k′ c h = go (eqb Q′ Q && eqb k′ k) refl h
     where
-      go : (t : Bool) → (eqb Q′ Q && eqb k′ k) ≡ t → cond t o (s .channel Q′ k′) ≡ some c → Held (s .type) Q′ c
+      go : (t : Bool) → (eqb Q′ Q && eqb k′ k) ≡ t → cond t o (s .channel Q′ k′) ≡ some c → ValidChannel (s .type) Q′ c
       go true e h = rw (same-code Q k Q′ k′ e .0) (held c h)
       go false e h = v .channel Q′ k′ c h
 
@@ -130,7 +130,7 @@ module _ (s : Setup) (v : Valid s) where
   pub opened-valid : (Q k g : ℕ) → Passed (open-refusals s Q k g) → Valid (opened s Q k g)
   opened-valid Q k g h =
       with-channel-valid s v Q k (good-code Q k (h .0) (h .1 .0) .listed) (unrelated Q k (h .1 .1 .1 .0)) _
-      (λ c e. subst (Held (s .type) Q) (Option·some-injective _ c e) (record {
+      (λ c e. subst (ValidChannel (s .type) Q) (Option·some-injective _ c e) (record {
         above-0 = gain-range g (h .1 .1 .0) .0;
         at-most = gain-range g (h .1 .1 .0) .1;
         count = length-replicate {A = ℕ} _ 0;
@@ -143,13 +143,13 @@ module _ (s : Setup) (v : Valid s) where
       (λ c e. absurd (Option·none-ne-some c e))
 
   -- what an open code holds is changed, within its ranges
-  changed-held : (Q k : ℕ) (f : Channel → Channel) → ((c : Channel) → Held (s .type) Q c → Held (s .type) Q (f c))
-      → (c : Channel) → changed f (s .channel Q k) ≡ some c → Held (s .type) Q c
+  changed-held : (Q k : ℕ) (f : ChannelSetup → ChannelSetup) → ((c : ChannelSetup) → ValidChannel (s .type) Q c → ValidChannel (s .type) Q (f c))
+      → (c : ChannelSetup) → channel-changed f (s .channel Q k) ≡ some c → ValidChannel (s .type) Q c
   changed-held Q k f h c e = go (s .channel Q k) refl e
     where
-      go : (o : Option Channel) → s .channel Q k ≡ o → changed f o ≡ some c → Held (s .type) Q c
+      go : (o : Option ChannelSetup) → s .channel Q k ≡ o → channel-changed f o ≡ some c → ValidChannel (s .type) Q c
       go none q e = absurd (Option·none-ne-some c e)
-      go (some d) q e = subst (Held (s .type) Q) (Option·some-injective (f d) c e) (h d (v .channel Q k d q))
+      go (some d) q e = subst (ValidChannel (s .type) Q) (Option·some-injective (f d) c e) (h d (v .channel Q k d q))
 
   pub gain-set-valid : (Q k g : ℕ) → Passed (set-gain-refusals s Q k g) → Valid (gain-set s Q k g)
   gain-set-valid Q k g h =
@@ -163,24 +163,24 @@ module _ (s : Setup) (v : Valid s) where
       (changed-held Q k (λ c. record { gain = c .gain; bits = bits })
       (λ c d. record { above-0 = d .above-0; at-most = d .at-most; count = eqb-true _ _ (not-false _ (h .1 .1 .1 .0)); bit = is-bit bits (h .1 .1 .1 .1 .0) }))
 
-  with-sync-valid : (y : Option SyncSetup) → ((z : SyncSetup) → y ≡ some z → HeldSync (s .type) z) → Valid (with-sync s y)
+  with-sync-valid : (y : Option SyncSetup) → ((z : SyncSetup) → y ≡ some z → ValidSync (s .type) z) → Valid (sync-changed s y)
   with-sync-valid y f = record { cell = v .cell; type = v .type; code = v .code; apart = v .apart; channel = v .channel; sync = f }
 
   pub sync-set-valid : (case frame half gP gS : ℕ) → Passed (set-sync-refusals s case frame half gP gS)
-      → Valid (with-sync s (some (record { case = case; frame = frame; half = half; gP = gP; gS = gS })))
+      → Valid (sync-changed s (some (record { case = case; frame = frame; half = half; gP = gP; gS = gS })))
   sync-set-valid case frame half gP gS h =
       let g = neither (bad-gain gP) (bad-gain gS) (h .1 .1 .1 .0) in
-      with-sync-valid _ (λ z e. subst (HeldSync (s .type)) (Option·some-injective _ z e) (record {
+      with-sync-valid _ (λ z e. subst (ValidSync (s .type)) (Option·some-injective _ z e) (record {
         type = eqb-true _ _ (not-false _ (h .0));
         case = holds (one-or-two case) (h .1 .0);
-        frame-and-half = holds (is-frame-and-half case frame half) (h .1 .1 .0);
+        frame-and-half = h .1 .1 .0;
         P-above-0 = gain-range gP (g .0) .0;
         P-at-most = gain-range gP (g .0) .1;
         S-above-0 = gain-range gS (g .1) .0;
         S-at-most = gain-range gS (g .1) .1;
       }))
 
-  pub sync-cleared-valid : Valid (with-sync s none)
+  pub sync-cleared-valid : Valid (sync-changed s none)
   sync-cleared-valid = with-sync-valid none (no-sync-held (s .type))
 
 pub fresh-reference-valid : ValidReference fresh-reference

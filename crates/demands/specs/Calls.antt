@@ -1,18 +1,18 @@
--- Document 01, "The list and its ledger": the calls of a list, with any arguments, and what each gives.
+-- Document 01, "The list and its ledger": the calls of a list, with any arguments, and what each answers.
 use lib.IntN.{ℤ}
 use Prim.Native.Nat.{ℕ}
 use mathlib.Core.List.{List}
 use lib.ListN.{take}
 use Rattle.complex.specs.Buffers.{Values}
 use Rattle.codes.specs.Refusals.{Answer, refused, gives}
-use Rattle.bench.specs.declared.Channel.{Channel as Record}
+use Rattle.bench.specs.declared.Channel.{Channel}
 use Rattle.bench.specs.BenchCalls.{AnswerAt, refused-at, loads}
 
 -- A bench call with its arguments. B is what a draw is given as a buffer: the bench the buffer itself, the reference model its length.
 pub data Call (B : Type 0) : Type 0 where
   set-cell : (parameter type : ℕ) → Call B
   open-code : (Q k gain : ℕ) → Call B
-  load-plan : (plan : List Record) → Call B
+  load-plan : (plan : List Channel) → Call B
   close : (Q k : ℕ) → Call B
   set-gain : (Q k gain : ℕ) → Call B
   load-bits : (Q k : ℕ) (bits : List ℕ) → Call B
@@ -21,28 +21,29 @@ pub data Call (B : Type 0) : Type 0 where
   start : Call B
   draw : (re im : B) → Call B
 
--- What a call gives: that it was accepted, and nothing more; a refusal's number; of load plan the place too; of a draw its count, and the first
+-- What a bench call answers in a list: that it was accepted, and nothing more; a refusal's number; of load plan the place too; of a draw its count, and the first
 -- so many entries of its two buffers.
-pub data Told : Type 0 where
-  accepted : Told
-  refused-by : (number : ℕ) → Told
-  refused-record : (number place : ℕ) → Told
-  drew : (count : ℕ) (chips : Values) → Told
+pub data BenchAnswer : Type 0 where
+  accepted : BenchAnswer
+  refused-by : (number : ℕ) → BenchAnswer
+  refused-record : (number place : ℕ) → BenchAnswer
+  drew : (count : ℕ) (chips : Values) → BenchAnswer
 
--- what a call gives, and the bench, or the model, that it leaves
+-- what a call answers, and the bench, or the model, that it leaves
 pub record Step (S : Type 0) : Type 0 where
-  pub told : Told
+  pub answer : BenchAnswer
   pub next : S
 
-abbrev pub tell : Answer (Unit {0}) → Told
-tell (refused n) = refused-by n
-tell (gives a) = accepted
+-- the same from what a call's definition answers (`Answer`: document 01's number, or the values)
+abbrev pub as-answer : Answer (Unit {0}) → BenchAnswer
+as-answer (refused n) = refused-by n
+as-answer (gives a) = accepted
 
-abbrev pub tell-plan : AnswerAt (Unit {0}) → Told
-tell-plan (refused-at n place) = refused-record n place
-tell-plan (loads a) = accepted
+abbrev pub as-plan-answer : AnswerAt (Unit {0}) → BenchAnswer
+as-plan-answer (refused-at n place) = refused-record n place
+as-plan-answer (loads a) = accepted
 
 -- re and im are the buffers as the draw left them
-abbrev pub tell-draw : Answer ℕ → List ℤ → List ℤ → Told
-tell-draw (refused n) re im = refused-by n
-tell-draw (gives m) re im = drew m (record { re = take m re; im = take m im })
+abbrev pub as-draw-answer : Answer ℕ → List ℤ → List ℤ → BenchAnswer
+as-draw-answer (refused n) re im = refused-by n
+as-draw-answer (gives m) re im = drew m (record { re = take m re; im = take m im })

@@ -2,25 +2,21 @@
 use lib.IntN.{ℤ, pos}
 use Prim.Native.Nat.{ℕ, _+_, _*_, _/_, _≤_}
 use mathlib.Core.Path.{_≡_}
-use mathlib.Core.Bool.{Bool, true, not, _&&_}
+use mathlib.Core.Bool.{Bool, true, not}
 use mathlib.Core.List.{List, _++_}
 use mathlib.Core.Option.{none, some}
-use lib.Dec.{leb, ltb}
 use lib.ListN.{length, take, drop}
 use Rattle.complex.specs.declared.Complex.{Complex}
 use Rattle.complex.specs.Arithmetic.{real, 𝟎, _⊕_, _⊗_, Σℤ<, squared-size}
 use Rattle.complex.specs.Buffers.{value, Values, in-buffers}
 use Rattle.codes.specs.Range.{each}
-use Rattle.codes.specs.Tree.{related}
-use Rattle.codes.specs.Scrambling.{code-group}
-use Rattle.codes.specs.Burst.{burst-start}
 use Rattle.modulation.specs.Symbols.{pair, symbol}
 use Rattle.slot.specs.declared.parts.Parts.{Parts}
-use Rattle.slot.specs.Setup.{Channel, Setup, is-some, is-open}
-use Rattle.slot.specs.Slot.{burst-type, sync-chip, chip}
-use Rattle.bench.specs.BenchCalls.{some-code}
+use Rattle.slot.specs.Setup.{ChannelSetup, Setup}
+use Rattle.slot.specs.Slot.{burst-type, falls-on, sync-chip, chip}
+use Rattle.bench.specs.BenchCalls.{related-to-open}
 use Rattle.orthogonality.specs.Gains.{squared-gains}
-use Rattle.demands.specs.Reference.{with-sync}
+use Rattle.demands.specs.Reference.{sync-changed}
 use Rattle.demands.specs.AnalyserRuns.{Output, RanRead, RanHarden, wrote, wrote-bits}
 use Rattle.demands.specs.Slots.{Slot}
 
@@ -53,20 +49,20 @@ abbrev pub field-before : Setup → Field → ℕ
 field-before s f = before-of (burst-type (s .type)) f
 
 -- n entries of a list, from entry `at` on
-abbrev pub part : {A : Type 0} → ℕ → ℕ → List A → List A
-part at n l = take n (drop at l)
+abbrev pub entries-from : {A : Type 0} → ℕ → ℕ → List A → List A
+entries-from at n l = take n (drop at l)
 
 -- the chips from chip x to chip x + n - 1 of the slot are drawn: they come in order from chip 0 on (`in-order`), so it is enough to count them
-abbrev pub Drawn : Slot → ℕ → ℕ → Type 0
-Drawn slot x n = x + n ≤ length (slot .chips .re)
+abbrev pub ChipsDrawn : Slot → ℕ → ℕ → Type 0
+ChipsDrawn slot x n = x + n ≤ length (slot .chips .re)
 
 -- "A field is drawn whole when all its chips are among them."
 abbrev pub DrawnWhole : Slot → Field → Type 0
-DrawnWhole slot f = let s = slot .settings in Drawn slot (field-start s f) (field-length s f)
+DrawnWhole slot f = let s = slot .settings in ChipsDrawn slot (field-start s f) (field-length s f)
 
 -- n chips of the slot from chip x on, and a field, as they were drawn, in two buffers that "hold them in order"
 abbrev pub chips-from : Slot → ℕ → ℕ → Values
-chips-from slot x n = record { re = part x n (slot .chips .re); im = part x n (slot .chips .im) }
+chips-from slot x n = record { re = entries-from x n (slot .chips .re); im = entries-from x n (slot .chips .im) }
 
 abbrev pub drawn-field : Slot → Field → Values
 drawn-field slot f = let s = slot .settings in chips-from slot (field-start s f) (field-length s f)
@@ -92,29 +88,25 @@ abbrev pub readings : {s : Setup} {f : Field} {Q k : ℕ} {chips : Values} → F
 readings {s} {f} {Q} {k} {chips} x = let n = reading-count s f Q in record { re = take n (x .read .left .re); im = take n (x .read .left .im) }
 
 -- "A code's own symbols are those of that field, the n-th for reading n."
-abbrev pub own-symbol : Setup → Field → ℕ → Channel → ℕ → Complex
+abbrev pub own-symbol : Setup → Field → ℕ → ChannelSetup → ℕ → Complex
 own-symbol s f Q c n = symbol (pair (c .bits) (field-before s f / Q + n))
 
 -- "each reading of a code open at that start is its spreading factor times its gain times its own symbol"
-abbrev pub own-readings : Setup → Field → ℕ → Channel → Values
+abbrev pub own-readings : Setup → Field → ℕ → ChannelSetup → Values
 own-readings s f Q c = in-buffers (reading-count s f Q) (λ n. real (pos Q) ⊗ real (pos (c .gain)) ⊗ own-symbol s f Q c n)
 
 -- "a code unrelated to all of those": no open code is related to it
 abbrev pub unrelated : Setup → ℕ → ℕ → Bool
-unrelated s Q k = not (some-code (λ Q′ k′. is-open s Q′ k′ && related Q′ k′ Q k))
+unrelated s Q k = not (related-to-open s Q k)
 
 -- "and each of a code unrelated to all of those is zero"
 abbrev pub zero-readings : Setup → Field → ℕ → Values
 zero-readings s f Q = in-buffers (reading-count s f Q) (λ n. 𝟎)
 
 -- ---- the sync burst
--- a burst chip falls at chip x of the slot
-abbrev pub burst-at : Setup → ℕ → Bool
-burst-at s x = let start = burst-start (code-group (s .cell)) in is-some (s .sync) && (leb start x && ltb x (start + 256))
-
--- none falls at the n chips from chip x on
+-- no burst falls on the n chips of the slot from chip x on
 abbrev pub no-burst : Setup → ℕ → ℕ → Bool
-no-burst s x n = each n (λ i. not (burst-at s (x + i)))
+no-burst s x n = each n (λ i. not (falls-on (s .cell) (s .sync) (x + i)))
 
 -- "that field with the burst's chips alone, 0 around them"
 abbrev pub burst-field : Setup → Field → Values
@@ -122,7 +114,7 @@ burst-field s f = in-buffers (field-length s f) (λ q. sync-chip (s .cell) (s .s
 
 -- that field of the same settings without sync
 abbrev pub quiet-field : Setup → Field → Values
-quiet-field s f = in-buffers (field-length s f) (λ q. chip (with-sync s none) (field-start s f + q))
+quiet-field s f = in-buffers (field-length s f) (λ q. chip (sync-changed s none) (field-start s f + q))
 
 -- two lists of n values, added one by one
 abbrev pub added : ℕ → Values → Values → Values
@@ -135,8 +127,8 @@ pub record BurstAdds (s : Setup) (f : Field) (Q k : ℕ) (drawn : Values) (x : F
   pub own : burst .read ≡ wrote (readings burst) (burst .out)
   pub sum : x .read ≡ wrote (added (reading-count s f Q) (readings quiet) (readings burst)) (x .out)
   -- where the code is open, and where it is unrelated to all open ones
-  pub open-code : (c : Channel) → s .channel Q k ≡ some c → readings quiet ≡ own-readings s f Q c
-  pub unrelated-code : unrelated s Q k ≡ true → readings quiet ≡ zero-readings s f Q
+  pub if-open : (c : ChannelSetup) → s .channel Q k ≡ some c → readings quiet ≡ own-readings s f Q c
+  pub if-unrelated : unrelated s Q k ≡ true → readings quiet ≡ zero-readings s f Q
 
 -- ---- power, hard bits
 -- "the squared components of each 16 data chips add up to": those from chip x of the slot on, as they were drawn. "A stretch of 16 data chips counts
@@ -149,8 +141,8 @@ abbrev pub power-due : Setup → ℤ
 power-due s = pos (16 * squared-gains s)
 
 -- the bits of a channel that a field sends: field 1's come first, then field 2's
-abbrev pub field-bits : Setup → Field → ℕ → Channel → List ℕ
-field-bits s f Q c = part (2 * (field-before s f / Q)) (2 * reading-count s f Q) (c .bits)
+abbrev pub field-bits : Setup → Field → ℕ → ChannelSetup → List ℕ
+field-bits s f Q c = entries-from (2 * (field-before s f / Q)) (2 * reading-count s f Q) (c .bits)
 
 -- The chips of a field read, and the readings hardened into a byte buffer that suffices: `hardened` is what the function harden gave and left there.
 pub record FieldHardened (s : Setup) (f : Field) (Q k : ℕ) (chips : Values) : Type 0 where
@@ -162,11 +154,11 @@ pub record FieldHardened (s : Setup) (f : Field) (Q k : ℕ) (chips : Values) : 
 
 -- "hardening the readings of a channel .. yields the bits it held when that slot started": read wrote the channel's own readings, and harden the bits that
 -- the field sends
-pub record HardBits (s : Setup) (f : Field) (Q k : ℕ) (chips : Values) (c : Channel) (x : FieldHardened s f Q k chips) : Type 0 where
+pub record HardBits (s : Setup) (f : Field) (Q k : ℕ) (chips : Values) (c : ChannelSetup) (x : FieldHardened s f Q k chips) : Type 0 where
   pub read-wrote : x .field .read ≡ wrote (own-readings s f Q c) (x .field .out)
   pub harden-wrote : x .hardened ≡ wrote-bits (field-bits s f Q c) (x .bits)
 
 -- of both fields: one after the other, they are all of its bits
-pub record AllHardBits (s : Setup) (Q k : ℕ) (chips : Field → Values) (c : Channel) (x : (f : Field) → FieldHardened s f Q k (chips f)) : Type 0 where
+pub record AllHardBits (s : Setup) (Q k : ℕ) (chips : Field → Values) (c : ChannelSetup) (x : (f : Field) → FieldHardened s f Q k (chips f)) : Type 0 where
   pub each-field : (f : Field) → HardBits s f Q k (chips f) c (x f)
   pub all : field-bits s field-1 Q c ++ field-bits s field-2 Q c ≡ c .bits

@@ -6,7 +6,7 @@ use mathlib.Core.List.{List, [], _∷_, map}
 use mathlib.Core.Option.{some}
 use lib.ListN.{getD}
 use Rattle.complex.specs.declared.Complex.{Complex}
-use Rattle.complex.specs.Arithmetic.{_+j_}
+use Rattle.complex.specs.Arithmetic.{_+j_, real}
 use Rattle.complex.specs.Buffers.{listed}
 use Rattle.codes.specs.Tree.{code, related}
 use Rattle.codes.specs.Scrambling.{scrambling}
@@ -22,11 +22,11 @@ use Rattle.demands.specs.Reference.{cell-set, with-channel}
 
 -- the values that an instance speaks of
 pub data Value : Type 0 where
-  signs : List ℤ → Value
+  elements : List ℤ → Value
   truths : List Bool → Value
   complex : List Complex → Value
   numbers : List ℕ → Value
-  codes : Allocated → Value
+  code-units : Allocated → Value
 
 pub record Instance : Type 0 where
   pub given : List Value
@@ -36,12 +36,9 @@ infix 30 _is_
 abbrev pub _is_ : List Value → List Value → Instance
 v is w = record { given = v; stated = w }
 
--- x, and y times j, as complex values
-abbrev pub re : ℤ → Complex
-re x = x +j pos 0
-
-abbrev pub im : ℤ → Complex
-im y = pos 0 +j y
+-- y times j
+abbrev pub imaginary : ℤ → Complex
+imaginary y = pos 0 +j y
 
 abbrev pub minus : ℕ → ℤ
 minus n = negℤ (pos n)
@@ -66,35 +63,35 @@ abbrev pub readings-of : Setup → ℕ → ℕ → ℕ → Value
 readings-of s Q k n = complex (listed n (reading (s .cell) Q k (chip s)))
 
 abbrev pub three : ℕ → Complex → ℕ → Complex → ℕ → Complex → Value
-three i u j v k w = codes (record { first = with-unit i u; second = with-unit j v; marker = with-unit k w })
+three i u j v k w = code-units (record { first = with-unit i u; second = with-unit j v; marker = with-unit k w })
 
 -- the readings 0, 5+5j, -5-5j
 abbrev pub three-readings : ℕ → Complex
-three-readings n = getD (re (pos 0) ∷ (pos 5 +j pos 5) ∷ (minus 5 +j minus 5) ∷ []) n (re (pos 0))
+three-readings n = getD (real (pos 0) ∷ (pos 5 +j pos 5) ∷ (minus 5 +j minus 5) ∷ []) n (real (pos 0))
 
 unfoldable pub table : List Instance
 table =
     -- 1. (4, 1) is 1 1 -1 -1.
-    (signs (code 4 1) ∷ [] is signs (pos 1 ∷ pos 1 ∷ minus 1 ∷ minus 1 ∷ []) ∷ []) ∷
+    (elements (code 4 1) ∷ [] is elements (pos 1 ∷ pos 1 ∷ minus 1 ∷ minus 1 ∷ []) ∷ []) ∷
     -- 2. (8, 5) is 1 -1 1 -1 -1 1 -1 1.
-    (signs (code 8 5) ∷ [] is signs (pos 1 ∷ minus 1 ∷ pos 1 ∷ minus 1 ∷ minus 1 ∷ pos 1 ∷ minus 1 ∷ pos 1 ∷ []) ∷ []) ∷
+    (elements (code 8 5) ∷ [] is elements (pos 1 ∷ minus 1 ∷ pos 1 ∷ minus 1 ∷ minus 1 ∷ pos 1 ∷ minus 1 ∷ pos 1 ∷ []) ∷ []) ∷
     -- 3. (4, 1) and (16, 5) are related, (4, 1) and (16, 8) not.
     (truths (related 4 1 16 5 ∷ related 4 1 16 8 ∷ []) ∷ [] is truths (true ∷ false ∷ []) ∷ []) ∷
     -- 4. Scrambling code 8 begins j, -1, -j, -1.
-    (complex (map (scrambling 8) (1 ∷ 2 ∷ 3 ∷ 4 ∷ [])) ∷ [] is complex (im (pos 1) ∷ re (minus 1) ∷ im (minus 1) ∷ re (minus 1) ∷ []) ∷ []) ∷
+    (complex (map (scrambling 8) (1 ∷ 2 ∷ 3 ∷ 4 ∷ [])) ∷ [] is complex (imaginary (pos 1) ∷ real (minus 1) ∷ imaginary (minus 1) ∷ real (minus 1) ∷ []) ∷ []) ∷
     -- 5. Cell 8, (4, 1), gain 3, pair 01: 3j, -3, 3j, 3, reading 12.
     (chips-of one-code ∷ readings-of one-code 4 1 1 ∷ []
-    is complex (im (pos 3) ∷ re (minus 3) ∷ im (pos 3) ∷ re (pos 3) ∷ []) ∷ complex (re (pos 12) ∷ []) ∷ []) ∷
+    is complex (imaginary (pos 3) ∷ real (minus 3) ∷ imaginary (pos 3) ∷ real (pos 3) ∷ []) ∷ complex (real (pos 12) ∷ []) ∷ []) ∷
     -- 6. Cell 8, (2, 0) gain 3 pairs 01 01 with (4, 2) gain 5 pair 10: -2j, -8, 2j, -8; readings 6, 6 and -20, free (4, 3) reads 0.
     (chips-of two-codes ∷ readings-of two-codes 2 0 2 ∷ readings-of two-codes 4 2 1 ∷ readings-of two-codes 4 3 1 ∷ []
-    is complex (im (minus 2) ∷ re (minus 8) ∷ im (pos 2) ∷ re (minus 8) ∷ []) ∷
-    complex (re (pos 6) ∷ re (pos 6) ∷ []) ∷ complex (re (minus 20) ∷ []) ∷ complex (re (pos 0) ∷ []) ∷ []) ∷
+    is complex (imaginary (minus 2) ∷ real (minus 8) ∷ imaginary (pos 2) ∷ real (minus 8) ∷ []) ∷
+    complex (real (pos 6) ∷ real (pos 6) ∷ []) ∷ complex (real (minus 20) ∷ []) ∷ complex (real (pos 0) ∷ []) ∷ []) ∷
     -- 7. Bursts start at 720 for group 15, 1488 for 16, 2208 for 31.
     (numbers (map burst-start (15 ∷ 16 ∷ 31 ∷ [])) ∷ [] is numbers (720 ∷ 1488 ∷ 2208 ∷ []) ∷ []) ∷
     -- 8. Case 1, group 31, frame 2: -jC13, -jC14, -C10.
-    (codes (allocation 1 31 2 0) ∷ [] is three 13 (im (minus 1)) 14 (im (minus 1)) 10 (re (minus 1)) ∷ []) ∷
+    (code-units (allocation 1 31 2 0) ∷ [] is three 13 (imaginary (minus 1)) 14 (imaginary (minus 1)) 10 (real (minus 1)) ∷ []) ∷
     -- 9. Case 2, group 9, frame 2, half 1: -C10, C13, -C14.
-    (codes (allocation 2 9 2 1) ∷ [] is three 10 (re (minus 1)) 13 (re (pos 1)) 14 (re (minus 1)) ∷ []) ∷
+    (code-units (allocation 2 9 2 1) ∷ [] is three 10 (real (minus 1)) 13 (real (pos 1)) 14 (real (minus 1)) ∷ []) ∷
     -- 10. Cp chip 48 is -1-j.
     (complex (Cp 48 ∷ []) ∷ [] is complex ((minus 1 +j minus 1) ∷ []) ∷ []) ∷
     -- 11. C1 chip 16 is -1-j.

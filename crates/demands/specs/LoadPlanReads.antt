@@ -10,11 +10,11 @@ use contract.Lifetimes.{Lfts}
 use denote.Ref.{RefT}
 use denote.Triple.Clauses.{AtExit}
 use Rattle.bench.specs.declared.Bench.{Bench}
-use Rattle.bench.specs.declared.Channel.{Channel as Record}
+use Rattle.bench.specs.declared.Channel.{Channel}
 use Rattle.bench.specs.declared.Planned.{Planned}
 use Rattle.bench.proofs.Bench.load_plan.{clauses, ended}
 
-module _ (κs : Lfts 1) (given : Bench × (RefT (List Record) × Unit {0})) (r : Planned) (e : AtExit ended κs) where
+module _ (κs : Lfts 1) (given : Bench × (RefT (List Channel) × Unit {0})) (r : Planned) (e : AtExit ended κs) where
   abbrev ensures-of : (w : World) → Pr w
   ensures-of w = clauses (w .𝓤) (w .H) (w .𝓖 .A) (w .𝓜 .mem) (w .𝓡 .run) κs given .ensures tt r e
 

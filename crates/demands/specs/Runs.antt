@@ -2,7 +2,7 @@
 -- fresh bench, each other one the bench as the call before left it."
 --
 -- Of each call a run says what its function's own `ensures` gives every caller, and nothing else: `Learnt`, which the toolchain reads from the source
--- (of load plan `LoadPlanReads` does, from the same). So what holds of every run holds of the functions; nothing stands between but how an answer is told.
+-- (of load plan `LoadPlanReads` does, from the same). So what holds of every run holds of the functions; nothing stands between but the number and the values that an answer stands for.
 use Prim.Native.Nat.{ℕ}
 use mathlib.Core.List.{List, [], _∷_, map}
 use lib.IntN.{ℤ}
@@ -10,12 +10,12 @@ use lib.ListN.{take}
 use contract.Lifetimes.{Lfts}
 use denote.Ref.{RefT, now}
 use Rattle.bench.specs.declared.Bench.{Bench}
-use Rattle.bench.specs.declared.Channel.{Channel as Record}
+use Rattle.bench.specs.declared.Channel.{Channel}
 use Rattle.bench.specs.declared.PlanRecords.{PlanRecords}
 use Rattle.bench.specs.declared.Answered.{Answered}
 use Rattle.bench.specs.declared.Planned.{Planned}
 use Rattle.bench.specs.declared.Drawn.{Drawn}
-use Rattle.bench.specs.BenchCalls.{told-call, told-plan, told-draw}
+use Rattle.bench.specs.BenchCalls.{answer-of-call, answer-of-plan, answer-of-draw}
 use Rattle.bench.proofs.Bench.fresh.Reads as fresh-contract
 use Rattle.bench.proofs.Bench.set_cell.Reads as set-cell-contract
 use Rattle.bench.proofs.Bench.open.Reads as open-contract
@@ -28,25 +28,25 @@ use Rattle.bench.proofs.Bench.clear_sync.Reads as clear-sync-contract
 use Rattle.bench.proofs.Bench.start.Reads as start-contract
 use Rattle.bench.proofs.Bench.draw.Reads as draw-contract
 use Rattle.demands.specs.LoadPlanReads as load-plan-contract
-use Rattle.demands.specs.Calls.{Call, set-cell, open-code, load-plan, close, set-gain, load-bits, set-sync, clear-sync, start, draw, Told, Step, tell, tell-plan, tell-draw}
+use Rattle.demands.specs.Calls.{Call, set-cell, open-code, load-plan, close, set-gain, load-bits, set-sync, clear-sync, start, draw, BenchAnswer, Step, as-answer, as-plan-answer, as-draw-answer}
 
--- what a function answered, and the bench that it handed back
+-- what a function answered, by document 01's number or values (`answer-of-…`), and the bench that it handed back
 abbrev pub answered : Answered → Step Bench
-answered r = record { told = tell (told-call (r .answer)); next = r .bench }
+answered r = record { answer = as-answer (answer-of-call (r .answer)); next = r .bench }
 
 abbrev pub plan-answered : Planned → Step Bench
-plan-answered r = record { told = tell-plan (told-plan (r .answer)); next = r .bench }
+plan-answered r = record { answer = as-plan-answer (answer-of-plan (r .answer)); next = r .bench }
 
 -- of a draw also the two buffers as it left them
 abbrev pub draw-answered : Drawn → List ℤ → List ℤ → Step Bench
-draw-answered r re im = record { told = tell-draw (told-draw (r .answer)) re im; next = r .bench }
+draw-answered r re im = record { answer = as-draw-answer (answer-of-draw (r .answer)) re im; next = r .bench }
 
--- Ran b c y: the function of call c, given the bench b, gave and left y. There is a case for each public function of `Bench` that takes one: r is its
+-- Ran b c y: the function of call c, given the bench b, answered and left y. There is a case for each public function of `Bench` that takes one: r is its
 -- result, κs are the lifetimes of its references, e has its parameters as they are when it returns. `load_records` is load plan of the first records.
 pub data Ran (b : Bench) : Call (List ℤ) → Step Bench → Type 0 where
   by-set-cell : (p t : ℕ) (r : Answered) (e : _) → set-cell-contract.Learnt tt (b, (record { 0 = p }, (t, tt))) r e → Ran b (set-cell p t) (answered r)
   by-open : (Q k g : ℕ) (r : Answered) (e : _) → open-contract.Learnt tt (b, (Q, (k, (g, tt)))) r e → Ran b (open-code Q k g) (answered r)
-  by-load-plan : (κs : Lfts 1) (plan : RefT (List Record)) (r : Planned) (e : _) → load-plan-contract.Learnt κs (b, (plan, tt)) r e
+  by-load-plan : (κs : Lfts 1) (plan : RefT (List Channel)) (r : Planned) (e : _) → load-plan-contract.Learnt κs (b, (plan, tt)) r e
       → Ran b (load-plan (now plan)) (plan-answered r)
   by-load-records : (plan : PlanRecords) (count : ℕ) (r : Planned) (e : _) → load-records-contract.Learnt tt (b, (plan, (count, tt))) r e
       → Ran b (load-plan (take count (plan .records))) (plan-answered r)
@@ -76,9 +76,9 @@ pub record Run : Type 0 where
   pub steps : List (Step Bench)
   pub ran : RunFrom first calls steps
 
--- what was given, call by call
-abbrev pub told-in : List (Step Bench) → List Told
-told-in ys = map (λ (y : Step Bench). y .told) ys
+-- what was answered, call by call
+abbrev pub answers-in : List (Step Bench) → List BenchAnswer
+answers-in ys = map (λ (y : Step Bench). y .answer) ys
 
 -- the bench that is left in the end
 abbrev pub left-from : Bench → List (Step Bench) → Bench

@@ -10,9 +10,9 @@ use lib.ListN.{length}
 use Rattle.complex.specs.Buffers.{Values, in-buffers}
 use Rattle.slot.specs.Setup.{Setup}
 use Rattle.slot.specs.Slot.{slot-length, chip}
-use Rattle.demands.specs.Calls.{Call, set-cell, open-code, load-plan, close, set-gain, load-bits, set-sync, clear-sync, start, draw, Told, accepted, refused-by, refused-record, drew}
-use Rattle.demands.specs.Reference.{Reference, fresh-reference, reference-step, fed}
-use Rattle.demands.specs.Runs.{Run, told-in}
+use Rattle.demands.specs.Calls.{Call, set-cell, open-code, load-plan, close, set-gain, load-bits, set-sync, clear-sync, start, draw, BenchAnswer, accepted, refused-by, refused-record, drew}
+use Rattle.demands.specs.Reference.{Reference, fresh-reference, reference-step, arguments}
+use Rattle.demands.specs.Runs.{Run, answers-in}
 
 -- an accepted start: the settings at it, and the chips drawn after it
 pub record Slot : Type 0 where
@@ -41,23 +41,23 @@ is-start clear-sync = false
 is-start start = true
 is-start (draw re im) = false
 
--- what a call adds, by what the bench gave for it; `copy` is the ledger's after the call
-abbrev pub noted : Option Setup → Bool → Told → List Slot → List Slot
-noted copy t accepted past = cond t (begun copy past) past
-noted copy t (refused-by n) past = past
-noted copy t (refused-record n place) past = past
-noted copy t (drew m v) past = extended v past
+-- the slots after a call, by what the bench answered to it; `copy` is the ledger's after the call
+abbrev pub slots-after : Option Setup → Bool → BenchAnswer → List Slot → List Slot
+slots-after copy starts accepted past = cond starts (begun copy past) past
+slots-after copy starts (refused-by n) past = past
+slots-after copy starts (refused-record n place) past = past
+slots-after copy starts (drew m v) past = extended v past
 
-unfoldable pub slots-from : Reference → List Slot → List (Call (List ℤ)) → List Told → List Slot
-slots-from r past [] told = past
+unfoldable pub slots-from : Reference → List Slot → List (Call (List ℤ)) → List BenchAnswer → List Slot
+slots-from r past [] answers = past
 slots-from r past (c ∷ cs) [] = past
-slots-from r past (c ∷ cs) (t ∷ told) =
-    let next = reference-step r (fed c) .next in
-    slots-from next (noted (next .sending) (is-start c) t past) cs told
+slots-from r past (c ∷ cs) (a ∷ answers) =
+    let next = reference-step r (arguments c) .next in
+    slots-from next (slots-after (next .sending) (is-start c) a past) cs answers
 
 -- the accepted starts of a run, the last one first
 abbrev pub slots : Run → List Slot
-slots run = slots-from fresh-reference [] (run .calls) (told-in (run .steps))
+slots run = slots-from fresh-reference [] (run .calls) (answers-in (run .steps))
 
 -- "The chips drawn after an accepted start are, in order, those of the settings at that start": chips 0 to count - 1
 pub record InOrder (x : Slot) : Type 0 where

@@ -1,2 +1,1 @@
 // No code: the theorems on the crates below.
-fn nothing() {}

@@ -12,15 +12,16 @@ use lib.IntN.{ℤ, pos, negsuc, negℤ, natAbs, _+ℤ_, _-ℤ_, _*ℤ_}
 use lib.ListN.{length, set}
 use lib.Seq.{getD-set-same, getD-set-other}
 use lib.Signed.{leZ, ltZ}
+use Rattle.complex.specs.Buffers.{_at_}
 use Rattle.complex.specs.Arithmetic.{_+j_, squared-size}
 use Rattle.complex.specs.Fits.{Within}
 use Rattle.complex.proofs.Integers.{ring, abs-parts, by-parts, pos-part, neg-part, +ℤ-parts, negℤ-pos-part, negℤ-neg-part}
 use Rattle.complex.proofs.Order.{ltZ-true, ltZ-false, leZ-true, leZ-false, le-leZ, lt-ltZ}
-use Rattle.analyser_parts.specs.Held.{or-later, Peaks}
+use Rattle.analyser_parts.specs.Peaks.{or-later, Peaks}
 use Rattle.analyser_parts.specs.declared.largest.Largest.{Largest}
 use Rattle.analyser_parts.proofs.Choosing.{next}
 use Rattle.analyser_parts.proofs.Correlations.{times-one-minus-j}
-use Rattle.find.specs.Held.{Bounded, Covers, entries, lower-of, lowered-of, PeaksBelow, size-of}
+use Rattle.find.specs.PeakSearch.{Bounded, Covers, lower-of, lowered-of, PeaksBelow, size-of}
 
 -- ---- the starts passed
 module _ (s : ℕ → ℤ) (count : ℕ) where
@@ -111,9 +112,10 @@ size-least x y u h =
 
 -- one block more
 pub bounded-more : (s : ℕ → ℤ) (n : ℕ) (b : List ℤ) (v : ℤ) → n < length b → Bounded s n b → ((i : ℕ) → i < 32 → leZ (s (n * 32 + i)) v ≡ true) → Bounded s (n + 1) (set b n v)
+unfolding _at_
 bounded-more s n b v m h u =
     record {
-      each = next (λ k. (i : ℕ) → i < 32 → leZ (s (k * 32 + i)) (entries (set b n v) k) ≡ true) n
+      each = next (λ k. (i : ℕ) → i < 32 → leZ (s (k * 32 + i)) ((set b n v) at k) ≡ true) n
           (λ k l i j. let o : k ≢ n = λ e. omega arith in rw (getD-set-other b n k v (pos 0) o) (h .each k l i j))
           (λ i j. rw (getD-set-same b n v (pos 0) m) (u i j));
     }
@@ -146,30 +148,30 @@ sum-parts x y = by (lowered-of x +ℤ lowered-of y) (omega (arith, +ℤ-parts (l
     by (pos n) e = (omega arith, omega arith)
     by (negsuc n) e = (refl, omega arith)
 
-pub covers-more : (x y : List ℤ) (from n : ℕ) (low : ℤ) → Covers x y from n low → Within 25600000 (entries x (from + n)) → Within 25600000 (entries y (from + n)) → Covers x y from (n + 1) (lower-of low (entries x (from + n)) (entries y (from + n)))
+pub covers-more : (x y : List ℤ) (from n : ℕ) (low : ℤ) → Covers x y from n low → Within 25600000 (x at (from + n)) → Within 25600000 (y at (from + n)) → Covers x y from (n + 1) (lower-of low (x at (from + n)) (y at (from + n)))
 covers-more x y from n low h v w = go (ltZ z low) refl
   where
     z : ℤ
-    z = lowered-of (entries x (from + n)) +ℤ lowered-of (entries y (from + n))
+    z = lowered-of (x at (from + n)) +ℤ lowered-of (y at (from + n))
 
     none : pos-part z ≡ 0
-    none = sum-parts (entries x (from + n)) (entries y (from + n)) .0
+    none = sum-parts (x at (from + n)) (y at (from + n)) .0
 
-    both : natAbs z ≡ natAbs (entries x (from + n)) + natAbs (entries y (from + n))
-    both = omega (arith, abs-parts z, none, sum-parts (entries x (from + n)) (entries y (from + n)) .1)
+    both : natAbs z ≡ natAbs (x at (from + n)) + natAbs (y at (from + n))
+    both = omega (arith, abs-parts z, none, sum-parts (x at (from + n)) (y at (from + n)) .1)
 
     go : (t : Bool) → ltZ z low ≡ t → Covers x y from (n + 1) (cond t z low)
     go true q =
         record {
           sign = le-leZ z (pos 0) (omega (arith, none));
           size = record { size = omega (arith, both, v .size, w .size) };
-          each = next (λ i. natAbs (entries x (from + i)) + natAbs (entries y (from + i)) ≤ natAbs z) n
+          each = next (λ i. natAbs (x at (from + i)) + natAbs (y at (from + i)) ≤ natAbs z) n
               (λ i l. omega (arith, h .each i l, ltZ-true z low q, none-positive low (h .sign), none, abs-parts z, abs-parts low)) (omega (arith, both));
         }
     go false q =
         record {
           sign = h .sign;
           size = h .size;
-          each = next (λ i. natAbs (entries x (from + i)) + natAbs (entries y (from + i)) ≤ natAbs low) n (h .each)
+          each = next (λ i. natAbs (x at (from + i)) + natAbs (y at (from + i)) ≤ natAbs low) n (h .each)
               (omega (arith, both, ltZ-false z low q, none-positive low (h .sign), none, abs-parts z, abs-parts low));
         }

@@ -12,20 +12,20 @@ use mir.Val.{toZ, ofZ}
 use mir.Facts.{toZ-ofZ}
 use lib.Seq.{getD-append-add, getD-drop, getD-take}
 use Rattle.complex.specs.Arithmetic.{Σℤ<, squared-size}
-use Rattle.complex.specs.Buffers.{listed, value, written}
+use Rattle.complex.specs.Buffers.{listed, value, written, _at_}
 use Rattle.complex.specs.Fits.{Within, Bound}
 use Rattle.complex.proofs.Bounds.{bound-listed}
 use Rattle.complex.proofs.Integers.{ring, negsuc-zero-*ℤ}
 use Rattle.complex.proofs.Lists.{length-listed, listed-at, listed-cong, take-written}
 use Rattle.complex.proofs.Sizes.{fits-within, within-add, within-sub}
 use Rattle.complex.proofs.Sums.{Σℤ-cong}
-use Rattle.codes.specs.Held.{packed, sign-bit}
+use Rattle.codes.specs.PackedSigns.{packed, sign-bit}
 use Rattle.codes.specs.SyncCodes.{a, a-signs}
-use Rattle.analyser_parts.specs.Held.{primary-sum, signed-sum}
+use Rattle.analyser_parts.specs.PartSums.{primary-sum, signed-sum}
 use Rattle.analyser_parts.proofs.Products.{held}
 use Rattle.analyser_parts.proofs.Correlations.{primary-from}
 use Rattle.find.specs.Finding.{size-from}
-use Rattle.find.specs.Held.{entries, four-of, size-of}
+use Rattle.find.specs.PeakSearch.{four-of, size-of}
 
 -- what a local holds that was read from a list
 pub read-is : {z : ℤ} → Within 6400000 z → toZ w32 (ofZ w32 z) ≡ z
@@ -35,18 +35,20 @@ pub read-within : {z : ℤ} → Within 6400000 z → Within 6400000 (toZ w32 (of
 read-within h = held (read-is h) h
 
 -- an entry past those written
-past-written : (f : ℕ → ℤ) (d : List ℤ) (n k : ℕ) → n ≤ k → entries (written (listed n f) d) k ≡ entries d k
+past-written : (f : ℕ → ℤ) (d : List ℤ) (n k : ℕ) → n ≤ k → (written (listed n f) d) at k ≡ d at k
+unfolding _at_
 past-written f d n k h =
     let e : length (listed n f) + (k - n) ≡ k = omega (arith, length-listed f n) in
-    ap (entries (written (listed n f) d)) (sym e)
+    ap (_at_ (written (listed n f) d)) (sym e)
     ∙ getD-append-add (listed n f) (drop (length (listed n f)) d) (k - n) (pos 0)
     ∙ getD-drop (length (listed n f)) d (k - n) (pos 0)
-    ∙ ap (entries d) e
+    ∙ ap (_at_ d) e
 
-pub kept : {y : List ℤ} (f : ℕ → ℤ) (d : List ℤ) (n : ℕ) → y ≡ written (listed n f) d → (k : ℕ) → n ≤ k → entries y k ≡ entries d k
-kept f d n e k h = ap (λ (l : List ℤ). entries l k) e ∙ past-written f d n k h
+pub kept : {y : List ℤ} (f : ℕ → ℤ) (d : List ℤ) (n : ℕ) → y ≡ written (listed n f) d → (k : ℕ) → n ≤ k → y at k ≡ d at k
+kept f d n e k h = ap (λ (l : List ℤ). l at k) e ∙ past-written f d n k h
 
-pub taken-within : (k n : ℕ) (d : List ℤ) → Bound k (take n d) → (i : ℕ) → i < n → Within k (entries d i)
+pub taken-within : (k n : ℕ) (d : List ℤ) → Bound k (take n d) → (i : ℕ) → i < n → Within k (d at i)
+unfolding _at_
 taken-within k n d h i l = subst (Within k) (getD-take n d i (pos 0) l) (h .at i)
 
 -- ---- sums of four
@@ -91,7 +93,7 @@ signs-by-fours x = by (x 0) (x 1) (x 2) (x 3) (x 4) (x 5) (x 6) (x 7) (x 8) (x 9
 -- ---- the steps
 module _ (x : List ℤ) where
   abbrev pub step-1 : ℕ → ℤ
-  step-1 = four-of (entries x) 1 8 9
+  step-1 = four-of (_at_ x) 1 8 9
 
   abbrev pub step-2 : ℕ → ℤ
   step-2 = four-of step-1 2 4 6
@@ -103,11 +105,11 @@ module _ (x : List ℤ) where
   minus-pairs = four-of step-2 32 48 16
 
   sum-is : (p : ℕ) → step-2 p ≡ signed-sum x p (packed a)
-  unfolding signed-sum
+  unfolding signed-sum _at_
   sum-is p =
-      let f = shifted (entries x) 1 8 9 p in
+      let f = shifted (_at_ x) 1 8 9 p in
       (λ t. (ap step-1 (sym (add-zero p)) ∙ f 0) t +ℤ f 2 t +ℤ (f 4 t -ℤ f 6 t))
-      ∙ a-by-fours (λ i. entries x (p + i))
+      ∙ a-by-fours (λ i. x at (p + i))
 
   correlation-is : (p : ℕ) → whole-of plus-pairs minus-pairs p ≡ primary-sum x p
   unfolding primary-sum
@@ -119,7 +121,8 @@ module _ (x : List ℤ) where
       ∙ Σℤ-cong 16 (λ m. sign-bit (packed a-signs) m *ℤ step-2 (p + m * 16)) (λ m. sign-bit (packed a-signs) m *ℤ signed-sum x (p + m * 16) (packed a)) (λ m l. ap (λ (s : ℤ). sign-bit (packed a-signs) m *ℤ s) (sum-is (p + m * 16)))
 
 -- ---- lists whose first m entries are those of f
-pub entry-held : (l : List ℤ) (m : ℕ) (f : ℕ → ℤ) → take m l ≡ listed m f → (k : ℕ) → k < m → entries l k ≡ f k
+pub entry-held : (l : List ℤ) (m : ℕ) (f : ℕ → ℤ) → take m l ≡ listed m f → (k : ℕ) → k < m → l at k ≡ f k
+unfolding _at_
 entry-held l m f e k h = sym (getD-take m l k (pos 0) h) ∙ ap (λ (z : List ℤ). getD z k (pos 0)) e ∙ listed-at f (pos 0) m k h
 
 pub bound-held : (l : List ℤ) (k m : ℕ) (f : ℕ → ℤ) → take m l ≡ listed m f → ((i : ℕ) → Within k (f i)) → Bound k (take m l)
@@ -146,6 +149,7 @@ whole-held x m u v d f g w =
 
 -- ---- sizes
 pub primary-within : {x : List ℤ} → Bound 100000 x → (p : ℕ) → Within 25600000 (primary-sum x p)
+unfolding _at_
 primary-within {x} h p =
     let one = four-within (λ i. h .at i) 1 8 9 in
     let two = four-within one 2 4 6 in

@@ -59,6 +59,6 @@ ScratchLeft (refused n) old new = new ≡ old
 ScratchLeft (gives a) old new = length new ≡ length old
 
 -- ---- document 01's number and values for each case of the answer
-abbrev pub told-find : FindAnswer → Answer Peak
-told-find (Found p) = gives p
-told-find (Refused n) = refused n
+abbrev pub answer-of-find : FindAnswer → Answer Peak
+answer-of-find (Found p) = gives p
+answer-of-find (Refused n) = refused n

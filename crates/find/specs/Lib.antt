@@ -1,2 +1,2 @@
 pub mod Finding
-pub mod Held
+pub mod PeakSearch

@@ -7,12 +7,13 @@ ghost use lib.IntN.{_+ℤ_, _-ℤ_};
 ghost use lib.ListN.{length, take};
 ghost use lib.Signed.{leZ};
 ghost use Rattle.complex.specs.Arithmetic.{squared-size};
-ghost use Rattle.complex.specs.Buffers.{listed, value, written};
+ghost use Rattle.complex.specs.Buffers.{listed, value, written, _at_};
 ghost use Rattle.complex.specs.Fits.{Within, Both, Bound};
-ghost use Rattle.codes.specs.Refusals.{number};
-ghost use Rattle.analyser_parts.specs.Held.{Peaks, primary-sum};
+ghost use Rattle.codes.specs.Refusals.{refusal-number};
+ghost use Rattle.analyser_parts.specs.Peaks.{Peaks};
+ghost use Rattle.analyser_parts.specs.PartSums.{primary-sum};
 ghost use Rattle.find.specs.Finding.{find-refusals, longest-recording, peak as peak-of, scratch-length, shortest-recording, starts};
-ghost use Rattle.find.specs.Held.{Bounded, Covers, entries, four-of, lower-of, lowered-of, PeaksBelow, sizes, size-of};
+ghost use Rattle.find.specs.PeakSearch.{Bounded, Covers, four-of, lower-of, lowered-of, PeaksBelow, sizes, size-of};
 use crate::Peak;
 use analyser_parts::components;
 use analyser_parts::correlation::sum_of_products;
@@ -30,7 +31,7 @@ fn is_no_recording(n: usize) -> bool
 
 // The number of find's refusal, or 0, for scratch buffers of m and n entries.
 pub fn refusal(re: &[i32], im: &[i32], m: usize, n: usize) -> u32
-    ensures { λ r. ⌜ r ≡ number (find-refusals (now (re .entry)) (now (im .entry)) m n) ⌝ }
+    ensures { λ r. ⌜ r ≡ refusal-number (find-refusals (now (re .entry)) (now (im .entry)) m n) ⌝ }
 {
     if re.len() != im.len() {
         return 12;
@@ -58,7 +59,7 @@ fn four(p: i32, q: i32, r: i32, s: i32) -> i32
 // y(i) = x(i) + x(i + a) + x(i + b) - x(i + c) for i below `count`.
 fn sums(x: &[i32], a: usize, b: usize, c: usize, y: &mut [i32], count: usize)
     requires { ⌜ (count + c ≤ length (now x)) × (a ≤ c) × (b ≤ c) × (length (now x) ≤ 5120) × (count ≤ length (now y)) × Bound 400000 (now x) ⌝ }
-    ensures { λ r. ⌜ now (y .exit) ≡ written (listed count (four-of (entries (now (x .entry))) a b c)) (now (y .entry)) ⌝ }
+    ensures { λ r. ⌜ now (y .exit) ≡ written (listed count (four-of (_at_ (now (x .entry))) a b c)) (now (y .entry)) ⌝ }
 {
     for i in 0..count {
         let s = four(x[i], x[i + a], x[i + b], x[i + c]);
@@ -69,7 +70,7 @@ fn sums(x: &[i32], a: usize, b: usize, c: usize, y: &mut [i32], count: usize)
 // For i below `count`, y(i) becomes y(i) + y(i + 32) + y(i + 16) - y(i + 48), and t(i) the same with the last two signs changed.
 fn pairs(y: &mut [i32], t: &mut [i32], count: usize)
     requires { ⌜ (count + 48 ≤ length (now y)) × (count ≤ 5120) × (count ≤ length (now t)) × Bound 1600000 (take (count + 48) (now y)) ⌝ }
-    ensures { λ r. ⌜ (now (y .exit) ≡ written (listed count (four-of (entries (now (y .entry))) 32 16 48)) (now (y .entry))) × (now (t .exit) ≡ written (listed count (four-of (entries (now (y .entry))) 32 48 16)) (now (t .entry))) ⌝ }
+    ensures { λ r. ⌜ (now (y .exit) ≡ written (listed count (four-of (_at_ (now (y .entry))) 32 16 48)) (now (y .entry))) × (now (t .exit) ≡ written (listed count (four-of (_at_ (now (y .entry))) 32 48 16)) (now (t .entry))) ⌝ }
 {
     for i in 0..count {
         let p = y[i];
@@ -86,7 +87,7 @@ fn pairs(y: &mut [i32], t: &mut [i32], count: usize)
 // For i below `count`, y(i) becomes y(i) + y(i + 128) + t(i + 192) - t(i + 64).
 fn whole(y: &mut [i32], t: &[i32], count: usize)
     requires { ⌜ (count + 192 ≤ length (now y)) × (count ≤ 5120) × (count + 192 ≤ length (now t)) × Bound 6400000 (take (count + 192) (now y)) × Bound 6400000 (take (count + 192) (now t)) ⌝ }
-    ensures { λ r. ⌜ now (y .exit) ≡ written (listed count (λ p. entries (now (y .entry)) p +ℤ entries (now (y .entry)) (p + 128) +ℤ (entries (now (t .entry)) (p + 192) -ℤ entries (now (t .entry)) (p + 64)))) (now (y .entry)) ⌝ }
+    ensures { λ r. ⌜ now (y .exit) ≡ written (listed count (λ p. now (y .entry) at p +ℤ now (y .entry) at (p + 128) +ℤ (now (t .entry) at (p + 192) -ℤ now (t .entry) at (p + 64)))) (now (y .entry)) ⌝ }
 {
     for i in 0..count {
         let s = four(y[i], y[i + 128], t[i + 192], t[i + 64]);
@@ -95,7 +96,7 @@ fn whole(y: &mut [i32], t: &[i32], count: usize)
 }
 
 // The correlations of a component with the signs of the primary code from every start on. The code is a Golay sequence, so four steps
-// with 13 additions a chip make what its definition makes with 255; t is scratch.
+// with 15 additions a chip, 13 where the compiler shares the two that `pairs` has twice, make what its definition makes with 255; t is scratch.
 fn correlate(x: &[i32], y: &mut [i32], t: &mut [i32])
     requires { ⌜ (256 ≤ length (now x)) × (length (now x) ≤ 5120) × (scratch-length (length (now x)) ≤ length (now y)) × (length (now x) ≤ length (now t)) × Bound 100000 (now x) ⌝ }
     ensures { λ r. ⌜ (take (starts (length (now (x .entry)))) (now (y .exit)) ≡ listed (starts (length (now (x .entry)))) (primary-sum (now (x .entry)))) × (length (now (y .exit)) ≡ length (now (y .entry))) × (length (now (t .exit)) ≡ length (now (t .entry))) ⌝ }
@@ -167,10 +168,11 @@ fn bounds(re: &[i32], im: &[i32]) -> [i64; 160]
     all
 }
 
-// Where the largest of the first n bounds stands. For find's answer any block would do: this one leaves few others to look at.
+// Where the largest of the first n bounds stands. For find's answer any block would do: this one leaves few others to look at. The first
+// is compared with itself too, so that the loop is one over all.
 fn highest(bounds: &[i64; 160], n: usize) -> usize
     requires { ⌜ (0 < n) × (n ≤ 160) ⌝ }
-    ensures { λ r. ⌜ (r < n) × ((k : ℕ) → k < n → leZ (entries (now (bounds .entry)) k) (entries (now (bounds .entry)) r) ≡ true) ⌝ }
+    ensures { λ r. ⌜ (r < n) × ((k : ℕ) → k < n → leZ (now (bounds .entry) at k) (now (bounds .entry) at r) ≡ true) ⌝ }
 {
     let mut top = Largest {
         at: 0,
@@ -186,7 +188,8 @@ fn highest(bounds: &[i64; 160], n: usize) -> usize
     top.at
 }
 
-// The largest size, once the starts from `from` to `end` are looked at, whichever of them count.
+// The largest size, once the starts from `from` to `end` are looked at too. The promise is one for any choice of starts that count: the caller
+// leaves out blocks whose bound is too low.
 fn look(best: Largest, re: &[i32], im: &[i32], from: usize, end: usize) -> Largest
     requires { ⌜ (from ≤ end) × (end ≤ length (now re)) × (length (now re) ≡ length (now im)) × (length (now re) ≤ 5120) × Bound 25600000 (now re) × Bound 25600000 (now im) ⌝ }
     ensures { λ r. ⌜ ((c : ℕ → Bool) → PeaksBelow (sizes (now (re .entry)) (now (im .entry))) c (length (now (re .entry))) from best → PeaksBelow (sizes (now (re .entry)) (now (im .entry))) c (length (now (re .entry))) end r) ⌝ }

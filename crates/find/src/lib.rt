@@ -2,7 +2,7 @@
 // refuses by document 01's number and leaves every buffer as it was where it refuses.
 ghost use mathlib.Core.Path.{_≡_};
 ghost use lib.ListN.{length};
-ghost use Rattle.find.specs.Finding.{find-call, told-find, ScratchLeft};
+ghost use Rattle.find.specs.Finding.{find-call, answer-of-find, ScratchLeft};
 
 mod finding;
 
@@ -22,7 +22,7 @@ pub enum FindAnswer {
 // Refuses 12 re and im differ in length; 16 a recording shorter than 256 chips or longer than 5120; 17 a component outside
 // -100000 to 100000; 18 a scratch buffer too short.
 pub fn find(re: &[i32], im: &[i32], sumre: &mut [i32], sumim: &mut [i32]) -> FindAnswer
-    ensures answer { λ r. ⌜ told-find r ≡ find-call (now (re .entry)) (now (im .entry)) (length (now (sumre .entry))) (length (now (sumim .entry))) ⌝ }
+    ensures answer { λ r. ⌜ answer-of-find r ≡ find-call (now (re .entry)) (now (im .entry)) (length (now (sumre .entry))) (length (now (sumim .entry))) ⌝ }
     ensures real { λ r. ⌜ ScratchLeft (find-call (now (re .entry)) (now (im .entry)) (length (now (sumre .entry))) (length (now (sumim .entry)))) (now (sumre .entry)) (now (sumre .exit)) ⌝ }
     ensures imaginary { λ r. ⌜ ScratchLeft (find-call (now (re .entry)) (now (im .entry)) (length (now (sumre .entry))) (length (now (sumim .entry)))) (now (sumim .entry)) (now (sumim .exit)) ⌝ }
 {

@@ -32,6 +32,6 @@ abbrev pub harden-call : List ℤ → List ℤ → ℕ → Answer (List ℕ)
 harden-call re im m = harden-refusals re im m otherwise listed (2 * length re) (hard-bit (value re im))
 
 -- ---- document 01's number and values for each case of the answer: the bits are in the byte buffer
-abbrev pub told-harden : HardenAnswer → Answer (Unit {0})
-told-harden Hardened = gives tt
-told-harden (Refused n) = refused n
+abbrev pub answer-of-harden : HardenAnswer → Answer (Unit {0})
+answer-of-harden Hardened = gives tt
+answer-of-harden (Refused n) = refused n

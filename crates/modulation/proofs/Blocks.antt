@@ -18,7 +18,7 @@ use Rattle.complex.specs.Fits.{Within, Bound, Both, Fits32}
 use Rattle.complex.proofs.Lists.{one-more-written, listed-cong}
 use Rattle.complex.proofs.Bounds.{bound-listed}
 use Rattle.modulation.specs.declared.Block.{Block}
-use Rattle.modulation.specs.Held.{block-of, component}
+use Rattle.modulation.specs.SixteenChips.{block-of, component}
 
 abbrev zeros : List ℤ
 zeros = replicate 16 (pos 0)

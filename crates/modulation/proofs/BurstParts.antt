@@ -11,8 +11,8 @@ use Rattle.complex.proofs.Integers.{ring, *ℤ-swap}
 use Rattle.complex.proofs.Ring.{by-components, products, ⊗-⊕, ⊕-⊗, real-*ℤ, real-⊗, real-one-plus-j}
 use Rattle.complex.proofs.Sizes.{within-more, within-add, within-sub, within-mul}
 use Rattle.complex.proofs.Components.{both-⊕, both-sign}
-use Rattle.codes.specs.Signs.{_at_}
-use Rattle.codes.specs.Held.{sign-bit, secondary-row}
+use Rattle.complex.specs.Buffers.{_at_}
+use Rattle.codes.specs.PackedSigns.{sign-bit, secondary-row}
 use Rattle.codes.specs.declared.ModulatedCode.{ModulatedCode}
 use Rattle.codes.specs.declared.Allocated.{Allocated}
 use Rattle.codes.specs.SyncCodes.{a, a-signs, b, b-signs, Cp, C, hadamard-part, is-sync-code}
@@ -21,7 +21,7 @@ use Rattle.codes.specs.Burst.{secondaries, burst}
 use Rattle.codes.proofs.Rows.{sign-within, row-within, a-test, a-signs-test, b-test}
 use Rattle.codes.proofs.Parts.{Cp-parts, C-parts, secondary-signs, sync-code-below}
 use Rattle.codes.proofs.Allocations.{AllKnown, allocation-known}
-use Rattle.modulation.specs.Held.{modulated-part, modulated-parts, part-chip}
+use Rattle.modulation.specs.SixteenChips.{modulated-part, modulated-parts, part-chip}
 
 -- (1 + j) t times g, as the code computes it
 pub gained-is : (g : ℤ) (t : Complex) → real g ⊗ (t ⊗ (pos 1 +j pos 1)) ≡ g *ℤ (t .re -ℤ t .im) +j g *ℤ (t .re +ℤ t .im)

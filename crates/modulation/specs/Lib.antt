@@ -1,3 +1,3 @@
 pub mod Symbols
 pub mod Nodes
-pub mod Held
+pub mod SixteenChips

@@ -7,7 +7,7 @@ ghost use Rattle.complex.specs.Arithmetic.{_+j_, real, 𝟎, _⊗_};
 ghost use Rattle.complex.specs.Buffers.{listed};
 ghost use Rattle.complex.specs.Fits.{Both, Bound, Within};
 ghost use Rattle.codes.specs.Burst.{burst};
-ghost use Rattle.modulation.specs.Held.{block-of, modulated-part as modulated-part-of, modulated-parts as modulated-parts-of, part-chip as part-chip-of};
+ghost use Rattle.modulation.specs.SixteenChips.{block-of, modulated-part as modulated-part-of, modulated-parts as modulated-parts-of, part-chip as part-chip-of};
 use crate::Block;
 use codes::Allocated;
 use codes::CodeGroup;

@@ -10,7 +10,7 @@ ghost use Rattle.complex.specs.Fits.{Bound, Within};
 ghost use Rattle.codes.specs.Tree.{is-spreading-factor, width};
 ghost use Rattle.modulation.specs.Symbols.{symbol as symbol-of};
 ghost use Rattle.modulation.specs.Nodes.{node as node-of};
-ghost use Rattle.modulation.specs.Held.{block-chip, block-of, climbed as climbed-of, component as component-of, has-open, joined as joined-of, levels-of, raised as raised-of, spread as spread-of, turn-at, turned as turned-of};
+ghost use Rattle.modulation.specs.SixteenChips.{block-chip, block-of, climbed as climbed-of, component as component-of, has-open, with-own, levels-of, raised as raised-of, summed as summed-of, sign-pair, scrambled as scrambled-of};
 use crate::Block;
 use codes::CellParameter;
 use codes::scrambling;
@@ -117,9 +117,9 @@ fn raised(x: &[i32; 16], q: usize) -> [i32; 16]
 }
 
 // The entries x of level q with the gains of its own codes on the symbols s.
-fn joined(gains: &[u16; 31], s: &[i32; 16], x: &[i32; 16], q: usize) -> [i32; 16]
+fn with_own(gains: &[u16; 31], s: &[i32; 16], x: &[i32; 16], q: usize) -> [i32; 16]
     requires { ⌜ (is-spreading-factor q ≡ true) × Bound 1 (now s) × Bound 1966050 (now x) ⌝ }
-    ensures entries { λ r. ⌜ r ≡ listed 16 (joined-of (now (gains .entry)) (now (s .entry)) (now (x .entry)) q) ⌝ }
+    ensures entries { λ r. ⌜ r ≡ listed 16 (with-own (now (gains .entry)) (now (s .entry)) (now (x .entry)) q) ⌝ }
     ensures size { λ r. ⌜ ((k : ℕ) → k ≤ 1966050 → Bound k (now (x .entry)) → Bound (k + 65535) r) ⌝ }
 {
     let mut y = [0i32; 16];
@@ -130,7 +130,7 @@ fn joined(gains: &[u16; 31], s: &[i32; 16], x: &[i32; 16], q: usize) -> [i32; 16
 }
 
 // The entries of level q, from those of the level below it and from its own codes' gains and symbols; where no code of the level is open
-// there is nothing to join.
+// there is nothing to add.
 fn climbed(gains: &[u16; 31], any_open: bool, s: &[i32; 16], x: &[i32; 16], q: usize) -> [i32; 16]
     requires { ⌜ (is-spreading-factor q ≡ true) × (any_open ≡ has-open (now gains) q) × Bound 1 (now s) × Bound 983025 (now x) ⌝ }
     ensures entries { λ r. ⌜ r ≡ listed 16 (climbed-of (now (gains .entry)) (now (s .entry)) (now (x .entry)) q) ⌝ }
@@ -138,7 +138,7 @@ fn climbed(gains: &[u16; 31], any_open: bool, s: &[i32; 16], x: &[i32; 16], q: u
 {
     let mut y = raised(x, q);
     if any_open {
-        y = joined(gains, s, &y, q);
+        y = with_own(gains, s, &y, q);
     }
     y
 }
@@ -178,11 +178,12 @@ pub fn open_levels(gains: &[u16; 31]) -> OpenLevels
 
 // One component of the sixteen chips before scrambling, from that component of the sixteen symbols: four rounds of sums and
 // differences up the tree, since each code stands in the two below it, once with its second half negated.
-fn spread(gains: &[u16; 31], levels: OpenLevels, s: &[i32; 16]) -> [i32; 16]
+fn summed(gains: &[u16; 31], levels: OpenLevels, s: &[i32; 16]) -> [i32; 16]
     requires { ⌜ (levels ≡ levels-of (now gains)) × Bound 1 (now s) ⌝ }
-    ensures entries { λ r. ⌜ r ≡ listed 16 (spread-of (now (gains .entry)) (now (s .entry))) ⌝ }
+    ensures entries { λ r. ⌜ r ≡ listed 16 (summed-of (now (gains .entry)) (now (s .entry))) ⌝ }
     ensures size { λ r. ⌜ Bound 2031585 r ⌝ }
 {
+    // Level 16 has none below it: these are not looked at.
     let none = [0i32; 16];
     let x16 = climbed(gains, levels.q16, s, &none, 16);
     let x8 = climbed(gains, levels.q8, s, &x16, 8);
@@ -191,10 +192,10 @@ fn spread(gains: &[u16; 31], levels: OpenLevels, s: &[i32; 16]) -> [i32; 16]
     climbed(gains, levels.q1, s, &x2, 1)
 }
 
-// A cell's turns: the elements of its scrambling code, each times 1 + j; their components are the code's signs, some changed, by a pattern of four
+// A cell's sign pairs: the elements of its scrambling code, each times 1 + j; their components are the code's signs, some changed, by a pattern of four
 // places. The elements themselves are imaginary at even places, from 0, and real at odd ones, so each component of a product with one is a single product.
-pub fn turns(cell: CellParameter) -> Block
-    ensures { λ r. ⌜ r ≡ block-of (turn-at (cell .0)) ⌝ }
+pub fn sign_pairs(cell: CellParameter) -> Block
+    ensures { λ r. ⌜ r ≡ block-of (sign-pair (cell .0)) ⌝ }
 {
     let mut re = [0i32; 16];
     let mut im = [0i32; 16];
@@ -224,9 +225,9 @@ fn signed(s: i32, x: i32) -> i32
 }
 
 // Entry i of `even` where i is even, else of `odd`, times t's.
-fn turned_entry(t: &[i32; 16], even: &[i32; 16], odd: &[i32; 16], i: usize) -> i32
+fn scrambled_entry(t: &[i32; 16], even: &[i32; 16], odd: &[i32; 16], i: usize) -> i32
     requires { ⌜ (i < 16) × Bound 1 (now t) × Bound 2031585 (now even) × Bound 2031585 (now odd) ⌝ }
-    ensures { λ r. ⌜ r ≡ turned-of (now (t .entry)) (now (even .entry)) (now (odd .entry)) i ⌝ }
+    ensures { λ r. ⌜ r ≡ scrambled-of (now (t .entry)) (now (even .entry)) (now (odd .entry)) i ⌝ }
 {
     if i % 2 == 0 {
         signed(t[i], even[i])
@@ -235,20 +236,20 @@ fn turned_entry(t: &[i32; 16], even: &[i32; 16], odd: &[i32; 16], i: usize) -> i
     }
 }
 
-// One component of sixteen values times the scrambling code, from the code's turns for this component and the values' components that make
+// One component of sixteen values times the scrambling code, from the code's signs for this component and the values' components that make
 // it at even places and at odd ones.
-fn turned(t: &[i32; 16], even: &[i32; 16], odd: &[i32; 16]) -> [i32; 16]
+fn scrambled(t: &[i32; 16], even: &[i32; 16], odd: &[i32; 16]) -> [i32; 16]
     requires { ⌜ Bound 1 (now t) × Bound 2031585 (now even) × Bound 2031585 (now odd) ⌝ }
-    ensures { λ r. ⌜ r ≡ listed 16 (turned-of (now (t .entry)) (now (even .entry)) (now (odd .entry))) ⌝ }
+    ensures { λ r. ⌜ r ≡ listed 16 (scrambled-of (now (t .entry)) (now (even .entry)) (now (odd .entry))) ⌝ }
 {
     let mut y = [0i32; 16];
     for i in 0..16 {
-        y[i] = turned_entry(t, even, odd, i);
+        y[i] = scrambled_entry(t, even, odd, i);
     }
     y
 }
 
-// The sixteen chips, before the burst, whose pairs stand from `from` on; `tre` and `tim` are the scrambling code's turns.
+// The sixteen chips, before the burst, whose pairs stand from `from` on; `tre` and `tim` are the scrambling code's sign pairs.
 pub fn block<'a>(
     gains: &'a [u16; 31],
     levels: OpenLevels,
@@ -263,9 +264,9 @@ pub fn block<'a>(
 {
     let sre = symbols(pairs, from, true);
     let sim = symbols(pairs, from, false);
-    let x = spread(gains, levels, &sre);
-    let y = spread(gains, levels, &sim);
-    let re = turned(tre, &y, &x);
-    let im = turned(tim, &x, &y);
+    let x = summed(gains, levels, &sre);
+    let y = summed(gains, levels, &sim);
+    let re = scrambled(tre, &y, &x);
+    let im = scrambled(tim, &x, &y);
     Block { re: re, im: im }
 }

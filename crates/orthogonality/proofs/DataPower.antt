@@ -14,13 +14,13 @@ use Rattle.complex.proofs.Sums.{Σ-cong, Σ-blocks, ⊗-Σ, real-Σ}
 use Rattle.codes.specs.Scrambling.{scrambling}
 use Rattle.codes.specs.Tree.{is-code, element}
 use Rattle.modulation.specs.Symbols.{pair, symbol}
-use Rattle.slot.specs.Setup.{Channel, Setup, is-some}
+use Rattle.slot.specs.Setup.{ChannelSetup, Setup, is-some}
 use Rattle.slot.specs.Slot.{over-codes, data-chip}
 use Rattle.read.specs.Reading.{reading}
 use Rattle.orthogonality.specs.Gains.{Σℕ<, squared-gain, squared-gains}
 use Rattle.orthogonality.proofs.Blocks.{Blocks, blocks}
 use Rattle.orthogonality.proofs.Codes.{code-parts, over-cong, ⊗-over, conj-over, Σ-over}
-use Rattle.orthogonality.proofs.DataReadings.{gained, sent, data-spread, own-sent}
+use Rattle.orthogonality.proofs.DataReadings.{gained, sent-symbol, data-spread, own-sent-symbol}
 use Rattle.orthogonality.proofs.Spreading.{spread}
 use Rattle.orthogonality.proofs.Units.{conj-zero, symbol-unit}
 use Rattle.orthogonality.proofs.Unrelated.{Unrelated, EachOpen, Bits}
@@ -52,10 +52,10 @@ unfolding Σ<
 
 real-squares : (s : Setup) → real (pos (squared-gains s)) ≡ over-codes (λ Q k. real (pos (squared-gain (s .channel Q k))))
 unfolding squared-gains
-real-squares s = simp (real-+, real-Σℕ)
+real-squares s = simp (real-+, real-zero, real-Σℕ)
 
 -- ---- the power of one code's symbols
-gained-power : (o : Option Channel) → ((c : Channel) → o ≡ some c → Bits c) → (n : ℕ) → gained o n ⊗ conj (gained o n) ≡ real (pos (squared-gain o))
+gained-power : (o : Option ChannelSetup) → ((c : ChannelSetup) → o ≡ some c → Bits c) → (n : ℕ) → gained o n ⊗ conj (gained o n) ≡ real (pos (squared-gain o))
 unfolding gained
 gained-power none b n = rw (𝟎-⊗, real-zero)
 gained-power (some c) b n =
@@ -69,8 +69,8 @@ gained-power (some c) b n =
 -- ---- a code's part in the power
 -- A chip's power is the sum over all codes of the chip times the conjugate of what the code adds to it. Over one symbol of a code that is
 -- the code's own reading times the conjugate of what it sends, so the law of own readings is all that the power rests on.
-turned : (x f e w : Complex) → x ⊗ conj (f ⊗ e ⊗ w) ≡ conj f ⊗ (x ⊗ conj w ⊗ conj e)
-turned x f e w = simp (conj-⊗, products)
+regrouped : (x f e w : Complex) → x ⊗ conj (f ⊗ e ⊗ w) ≡ conj f ⊗ (x ⊗ conj w ⊗ conj e)
+regrouped x f e w = simp (conj-⊗, products)
 
 module _ (s : Setup) (h : s .cell < 128) (u : Unrelated s) (d : EachOpen s Bits) (before : ℕ) where
   module _ (Q k : ℕ) (c : is-code Q k ≡ true) where
@@ -79,21 +79,21 @@ module _ (s : Setup) (h : s .cell < 128) (u : Unrelated s) (d : EachOpen s Bits)
 
     -- a chip of the field, times the conjugate of what the code adds to it
     product : ℕ → Complex
-    product q = data-chip s before q ⊗ conj (spread (s .cell) Q k (sent s before Q k) q)
+    product q = data-chip s before q ⊗ conj (spread (s .cell) Q k (sent-symbol s before Q k) q)
 
     -- over symbol n
-    over-symbol : (n : ℕ) → Σ< Q (λ i. product (n * Q + i)) ≡ conj (sent s before Q k n) ⊗ reading (s .cell) Q k (data-chip s before) n
+    over-symbol : (n : ℕ) → Σ< Q (λ i. product (n * Q + i)) ≡ conj (sent-symbol s before Q k n) ⊗ reading (s .cell) Q k (data-chip s before) n
     unfolding product reading spread
     over-symbol n =
-        Σ-cong Q _ (λ i. conj (sent s before Q k n) ⊗ heard i) (λ i l. rw (b .own-symbol n i l, b .own-element n i l, turned, conj-real))
-        ∙ sym (⊗-Σ Q heard (conj (sent s before Q k n)))
+        Σ-cong Q _ (λ i. conj (sent-symbol s before Q k n) ⊗ heard i) (λ i l. rw (b .own-symbol n i l, b .own-element n i l, regrouped, conj-real))
+        ∙ sym (⊗-Σ Q heard (conj (sent-symbol s before Q k n)))
       where
         heard : ℕ → Complex
         heard i = data-chip s before (n * Q + i) ⊗ conj (scrambling (s .cell) (1 + (n * Q + i) % 16)) ⊗ real (element Q k i)
 
     -- a code that is not open sends 0; one that is open reads its own symbol
     own-power : (n : ℕ)
-        → conj (sent s before Q k n) ⊗ reading (s .cell) Q k (data-chip s before) n ≡ real (pos Q) ⊗ real (pos (squared-gain (s .channel Q k)))
+        → conj (sent-symbol s before Q k n) ⊗ reading (s .cell) Q k (data-chip s before) n ≡ real (pos Q) ⊗ real (pos (squared-gain (s .channel Q k)))
     unfolding gained
     own-power n =
         go (s .channel Q k) refl
@@ -102,11 +102,11 @@ module _ (s : Setup) (h : s .cell < 128) (u : Unrelated s) (d : EachOpen s Bits)
         arrange : (x y : Complex) → conj x ⊗ (y ⊗ x) ≡ y ⊗ (x ⊗ conj x)
         arrange x y = simp products
 
-        go : (o : Option Channel) → s .channel Q k ≡ o
-            → conj (sent s before Q k n) ⊗ reading (s .cell) Q k (data-chip s before) n
-            ≡ real (pos Q) ⊗ (sent s before Q k n ⊗ conj (sent s before Q k n))
+        go : (o : Option ChannelSetup) → s .channel Q k ≡ o
+            → conj (sent-symbol s before Q k n) ⊗ reading (s .cell) Q k (data-chip s before) n
+            ≡ real (pos Q) ⊗ (sent-symbol s before Q k n ⊗ conj (sent-symbol s before Q k n))
         go none e = rw (e, conj-zero) (simp (𝟎-⊗, ⊗-𝟎))
-        go (some x) e = rw (own-sent s before Q k c n h (u Q k c (ap is-some e))) (arrange (sent s before Q k n) (real (pos Q)))
+        go (some x) e = rw (own-sent-symbol s before Q k c n h (u Q k c (ap is-some e))) (arrange (sent-symbol s before Q k n) (real (pos Q)))
 
     -- over block m
     part : (m : ℕ) → Σ< 16 (λ i. product (m * 16 + i)) ≡ real (pos 16) ⊗ real (pos (squared-gain (s .channel Q k)))
@@ -128,13 +128,13 @@ module _ (s : Setup) (h : s .cell < 128) (u : Unrelated s) (d : EachOpen s Bits)
 
   pub data-power : (m : ℕ) → Σℤ< 16 (λ i. squared-size (data-chip s before (m * 16 + i))) ≡ pos (16 * squared-gains s)
   unfolding real product
-  data-power m = ap (λ (x : Complex). x .re) joined
+  data-power m = ap (λ (x : Complex). x .re) gathered
     where
       x : ℕ → Complex
       x i = data-chip s before (m * 16 + i)
 
       y : ℕ → ℕ → ℕ → Complex
-      y i Q k = spread (s .cell) Q k (sent s before Q k) (m * 16 + i)
+      y i Q k = spread (s .cell) Q k (sent-symbol s before Q k) (m * 16 + i)
 
       apiece : (i : ℕ) → real (squared-size (x i)) ≡ over-codes (λ Q k. x i ⊗ conj (y i Q k))
       apiece i =
@@ -143,8 +143,8 @@ module _ (s : Setup) (h : s .cell < 128) (u : Unrelated s) (d : EachOpen s Bits)
           ∙ ap (λ (z : Complex). x i ⊗ z) (conj-over (y i))
           ∙ ⊗-over (λ Q k. conj (y i Q k)) (x i)
 
-      joined : real (Σℤ< 16 (λ i. squared-size (x i))) ≡ real (pos (16 * squared-gains s))
-      joined =
+      gathered : real (Σℤ< 16 (λ i. squared-size (x i))) ≡ real (pos (16 * squared-gains s))
+      gathered =
           real-Σ 16 (λ i. squared-size (x i))
           ∙ Σ-cong 16 _ (λ i. over-codes (λ Q k. x i ⊗ conj (y i Q k))) (λ i l. apiece i)
           ∙ Σ-over 16 (λ i Q k. x i ⊗ conj (y i Q k))

@@ -17,7 +17,7 @@ use Rattle.codes.specs.Tree.{is-code, element, related, at-or-above}
 use Rattle.codes.proofs.Leaves.{each-code}
 use Rattle.codes.proofs.Tests.{T-true}
 use Rattle.modulation.specs.Symbols.{pair, symbol}
-use Rattle.slot.specs.Setup.{Channel, Setup, is-some}
+use Rattle.slot.specs.Setup.{ChannelSetup, Setup, is-some}
 use Rattle.slot.specs.Slot.{over-codes, channel-chip, data-chip}
 use Rattle.read.specs.Reading.{reading}
 use Rattle.orthogonality.proofs.Codes.{at-every-code, over-cong, over-one, ⊗-over, Σ-over}
@@ -27,20 +27,20 @@ use Rattle.orthogonality.proofs.Unrelated.{Alone, Free}
 
 -- ---- a field's data chips are what all codes spread
 -- gain × symbol n
-unfoldable pub gained : Option Channel → ℕ → Complex
+unfoldable pub gained : Option ChannelSetup → ℕ → Complex
 gained none n = 𝟎
 gained (some c) n = real (pos (c .gain)) ⊗ symbol (pair (c .bits) n)
 
 -- what code (Q, k) sends as symbol n of the field
-abbrev pub sent : Setup → ℕ → ℕ → ℕ → ℕ → Complex
-sent s before Q k n = gained (s .channel Q k) (before / Q + n)
+abbrev pub sent-symbol : Setup → ℕ → ℕ → ℕ → ℕ → Complex
+sent-symbol s before Q k n = gained (s .channel Q k) (before / Q + n)
 
-channel-spread : (p before q Q k : ℕ) (o : Option Channel) → channel-chip p before q Q k o ≡ spread p Q k (λ n. gained o (before / Q + n)) q
+channel-spread : (p before q Q k : ℕ) (o : Option ChannelSetup) → channel-chip p before q Q k o ≡ spread p Q k (λ n. gained o (before / Q + n)) q
 unfolding channel-chip spread gained
 channel-spread p before q Q k none = sym (simp 𝟎-⊗)
 channel-spread p before q Q k (some c) = refl
 
-pub data-spread : (s : Setup) (before q : ℕ) → data-chip s before q ≡ over-codes (λ Q k. spread (s .cell) Q k (sent s before Q k) q)
+pub data-spread : (s : Setup) (before q : ℕ) → data-chip s before q ≡ over-codes (λ Q k. spread (s .cell) Q k (sent-symbol s before Q k) q)
 unfolding data-chip
 data-spread s before q = over-cong _ _ (λ Q k e. channel-spread (s .cell) before q Q k (s .channel Q k))
 
@@ -72,34 +72,34 @@ silent p Q k Q′ k′ f z n = Σ-cong Q _ (λ i. 𝟎) (λ i l. rw (z ((n * Q +
 
 module _ (s : Setup) (before Q k : ℕ) (c : is-code Q k ≡ true) (n : ℕ) where
   -- it is the sum of what it hears of each code
-  heard : reading (s .cell) Q k (data-chip s before) n ≡ over-codes (λ Q′ k′. reading (s .cell) Q k (spread (s .cell) Q′ k′ (sent s before Q′ k′)) n)
+  heard : reading (s .cell) Q k (data-chip s before) n ≡ over-codes (λ Q′ k′. reading (s .cell) Q k (spread (s .cell) Q′ k′ (sent-symbol s before Q′ k′)) n)
   heard =
       ap (λ (x : ℕ → Complex). reading (s .cell) Q k x n) (λ i q. data-spread s before q i)
-      ∙ reading-over (s .cell) Q k (λ Q′ k′. spread (s .cell) Q′ k′ (sent s before Q′ k′)) n
+      ∙ reading-over (s .cell) Q k (λ Q′ k′. spread (s .cell) Q′ k′ (sent-symbol s before Q′ k′)) n
 
   -- and that is its own part alone: every other code is closed or unrelated
-  pub own-sent : s .cell < 128 → Alone s Q k → reading (s .cell) Q k (data-chip s before) n ≡ real (pos Q) ⊗ sent s before Q k n
+  pub own-sent-symbol : s .cell < 128 → Alone s Q k → reading (s .cell) Q k (data-chip s before) n ≡ real (pos Q) ⊗ sent-symbol s before Q k n
   unfolding gained
-  own-sent h a =
+  own-sent-symbol h a =
       heard
       ∙ over-one _ Q k c (λ Q′ k′ c′ d. other Q′ k′ c′ d (s .channel Q′ k′) refl (related Q′ k′ Q k) refl)
-      ∙ own-spread (s .cell) h Q k c (sent s before Q k) n
+      ∙ own-spread (s .cell) h Q k c (sent-symbol s before Q k) n
     where
       other : (Q′ k′ : ℕ) → is-code Q′ k′ ≡ true → ((Q′ ≡ Q) × (k′ ≡ k) → ⊥)
-          → (o : Option Channel) → s .channel Q′ k′ ≡ o → (b : Bool) → related Q′ k′ Q k ≡ b
-          → reading (s .cell) Q k (spread (s .cell) Q′ k′ (sent s before Q′ k′)) n ≡ 𝟎
-      other Q′ k′ c′ d none e b r = silent (s .cell) Q k Q′ k′ (sent s before Q′ k′) (λ m. rw e) n
+          → (o : Option ChannelSetup) → s .channel Q′ k′ ≡ o → (b : Bool) → related Q′ k′ Q k ≡ b
+          → reading (s .cell) Q k (spread (s .cell) Q′ k′ (sent-symbol s before Q′ k′)) n ≡ 𝟎
+      other Q′ k′ c′ d none e b r = silent (s .cell) Q k Q′ k′ (sent-symbol s before Q′ k′) (λ m. rw e) n
       other Q′ k′ c′ d (some x) e true r = absurd (d (a Q′ k′ c′ (ap is-some e) r))
-      other Q′ k′ c′ d (some x) e false r = other-spread (s .cell) h Q′ k′ c′ (sent s before Q′ k′) Q k c r n
+      other Q′ k′ c′ d (some x) e false r = other-spread (s .cell) h Q′ k′ c′ (sent-symbol s before Q′ k′) Q k c r n
 
 -- ---- the laws
 -- A reading of a code is a sum in which each symbol that any code sends has a weight, made of the signs of the two codes alone.
 -- A symbol of an unrelated code has weight 0, and of the code's own symbols only the n-th has a weight in reading n: Q.
-pub own-data : (s : Setup) → s .cell < 128 → (before Q k : ℕ) → is-code Q k ≡ true → (c : Channel) → s .channel Q k ≡ some c → Alone s Q k
+pub own-data : (s : Setup) → s .cell < 128 → (before Q k : ℕ) → is-code Q k ≡ true → (c : ChannelSetup) → s .channel Q k ≡ some c → Alone s Q k
     → (n : ℕ) → reading (s .cell) Q k (data-chip s before) n ≡ real (pos Q) ⊗ real (pos (c .gain)) ⊗ symbol (pair (c .bits) (before / Q + n))
 unfolding gained
 own-data s h before Q k e c o a n =
-    own-sent s before Q k e n h a
+    own-sent-symbol s before Q k e n h a
     ∙ rw o (sym (⊗-assoc (real (pos Q)) (real (pos (c .gain))) (symbol (pair (c .bits) (before / Q + n)))))
 
 -- a code is related to itself: where no open code is related to it, it is not open
@@ -116,7 +116,7 @@ pub unrelated-data : (s : Setup) (before Q k : ℕ) → is-code Q k ≡ true →
 unfolding gained
 unrelated-data s before Q k c f n = go (decLe 128 (s .cell)) (s .channel Q k) refl
   where
-    go : Dec (128 ≤ s .cell) → (o : Option Channel) → s .channel Q k ≡ o → reading (s .cell) Q k (data-chip s before) n ≡ 𝟎
+    go : Dec (128 ≤ s .cell) → (o : Option ChannelSetup) → s .channel Q k ≡ o → reading (s .cell) Q k (data-chip s before) n ≡ 𝟎
     go (yes h) o e = unscrambled (s .cell) Q k (data-chip s before) n h
-    go (no h) none e = own-sent s before Q k c n (lt-of-not-le h) (λ Q′ k′ c′ o r. absurd (true≢false (sym r ∙ f Q′ k′ c′ o))) ∙ rw (e, ⊗-𝟎)
+    go (no h) none e = own-sent-symbol s before Q k c n (lt-of-not-le h) (λ Q′ k′ c′ o r. absurd (true≢false (sym r ∙ f Q′ k′ c′ o))) ∙ rw (e, ⊗-𝟎)
     go (no h) (some x) e = absurd (true≢false (sym (T-true _ (at-every-code _ itself-test Q k c)) ∙ f Q k c (ap is-some e)))

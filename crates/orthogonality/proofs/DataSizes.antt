@@ -19,7 +19,7 @@ use Rattle.codes.proofs.Leaves.{element-within}
 use Rattle.codes.proofs.Rows.{v-within}
 use Rattle.modulation.specs.Symbols.{pair, symbol}
 use Rattle.modulation.proofs.Blocks.{symbol-both}
-use Rattle.slot.specs.Setup.{Channel, Setup, is-open}
+use Rattle.slot.specs.Setup.{ChannelSetup, Setup, is-open}
 use Rattle.slot.specs.Slot.{over-codes, channel-chip, data-chip}
 use Rattle.orthogonality.specs.Gains.{Σℕ<}
 use Rattle.orthogonality.proofs.Codes.{by-level}
@@ -43,12 +43,12 @@ over-within f k h =
     (λ l m. sum-within (2 ^ l) (f (2 ^ l)) (k (2 ^ l)) (λ i g. h (2 ^ l) i)))
 
 -- the gain of a code, 0 where it is not open
-abbrev pub gain-of : Option Channel → ℕ
+abbrev pub gain-of : Option ChannelSetup → ℕ
 gain-of none = 0
 gain-of (some c) = c .gain
 
 -- one channel's chip: all but the gain is of size 1
-channel-within : (p before q Q k : ℕ) (o : Option Channel) → Both (gain-of o) (channel-chip p before q Q k o)
+channel-within : (p before q Q k : ℕ) (o : Option ChannelSetup) → Both (gain-of o) (channel-chip p before q Q k o)
 unfolding channel-chip scrambling
 channel-within p before q Q k none = nothing
 channel-within p before q Q k (some c) =
@@ -77,11 +77,11 @@ module _ (s : Setup) (u : Unrelated s) (d : EachOpen s Gain) where
       sixteen-times gain 4095 (λ Q k c. small Q k c (s .channel Q k) refl)
       (λ Q k Q′ k′ c c′ o o′ r. u Q′ k′ c′ (opened Q′ k′ (s .channel Q′ k′) refl o′) Q k c (opened Q k (s .channel Q k) refl o) r .0)
     where
-      small : (Q k : ℕ) → is-code Q k ≡ true → (o : Option Channel) → s .channel Q k ≡ o → gain-of o ≤ 4095
+      small : (Q k : ℕ) → is-code Q k ≡ true → (o : Option ChannelSetup) → s .channel Q k ≡ o → gain-of o ≤ 4095
       small Q k c none e = omega arith
       small Q k c (some x) e = d Q k x c e
 
-      opened : (Q k : ℕ) (o : Option Channel) → s .channel Q k ≡ o → gain-of o ≢ 0 → is-open s Q k ≡ true
+      opened : (Q k : ℕ) (o : Option ChannelSetup) → s .channel Q k ≡ o → gain-of o ≢ 0 → is-open s Q k ≡ true
       opened Q k none e h = absurd (h refl)
       opened Q k (some x) e h = rw e
 

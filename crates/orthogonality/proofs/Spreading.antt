@@ -10,7 +10,7 @@ use Rattle.complex.specs.declared.Complex.{Complex}
 use Rattle.complex.specs.Arithmetic.{real, 𝟎, _⊗_, conj, Σℤ<}
 use Rattle.complex.proofs.Ring.{products, 𝟏-⊗, ⊗-comm, real-*ℤ}
 use Rattle.complex.proofs.Sums.{Σ-cong, ⊗-Σ, real-Σ}
-use Rattle.codes.specs.Signs.{_at_}
+use Rattle.complex.specs.Buffers.{_at_}
 use Rattle.codes.specs.Range.{each}
 use Rattle.codes.specs.Scrambling.{scrambling}
 use Rattle.codes.specs.Tree.{is-code, element, related}

@@ -10,8 +10,8 @@ use Rattle.complex.specs.declared.Complex.{Complex}
 use Rattle.complex.specs.Arithmetic.{real, 𝟎, 𝟏, 𝐣, _⊗_, conj, j^}
 use Rattle.complex.proofs.Ring.{real-zero, products, 𝟏-⊗, ⊗-𝟎, conj-⊗}
 use Rattle.codes.specs.Signs.{minus-if}
-use Rattle.codes.specs.Held.{packed, sign-bit}
-use Rattle.codes.specs.Scrambling.{row, v, scrambling}
+use Rattle.codes.specs.PackedSigns.{packed, sign-bit}
+use Rattle.codes.specs.Scrambling.{annex-row, v, scrambling}
 use Rattle.codes.proofs.Rows.{v-at, annex-read-back, no-row-at}
 use Rattle.modulation.specs.Symbols.{symbol}
 
@@ -39,7 +39,7 @@ unfolding scrambling sign-bit
 scrambling-unit p i h l = product-unit (j^ (1 + i)) (real (v p (1 + i))) (j^-unit (1 + i)) (rw sign (sign-unit minus))
   where
     minus : Bool
-    minus = eqb (packed (row p) / 2 ^ (15 - i) % 2) 0
+    minus = eqb (packed (annex-row p) / 2 ^ (15 - i) % 2) 0
 
     sign : v p (1 + i) ≡ minus-if minus
     sign = ap (v p) (add-comm 1 i) ∙ v-at p i ∙ sym (annex-read-back p h i) ∙ rw (le-ltb 15 i (omega arith))

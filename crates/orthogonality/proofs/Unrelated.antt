@@ -5,7 +5,7 @@ use mathlib.Core.Option.{some}
 use Prim.Native.Nat.{ℕ, _≤_}
 use lib.ListN.{getD}
 use Rattle.codes.specs.Tree.{is-code, related}
-use Rattle.slot.specs.Setup.{Channel, Setup, is-open}
+use Rattle.slot.specs.Setup.{ChannelSetup, Setup, is-open}
 
 -- no other open code is related to code (Q, k)
 abbrev pub Alone : Setup → ℕ → ℕ → Type 0
@@ -20,11 +20,11 @@ abbrev pub Unrelated : Setup → Type 0
 Unrelated s = (Q k : ℕ) → is-code Q k ≡ true → is-open s Q k ≡ true → Alone s Q k
 
 -- what holds of every open code's gain and bits
-abbrev pub EachOpen : Setup → (Channel → Type 0) → Type 0
-EachOpen s P = (Q k : ℕ) (c : Channel) → is-code Q k ≡ true → s .channel Q k ≡ some c → P c
+abbrev pub EachOpen : Setup → (ChannelSetup → Type 0) → Type 0
+EachOpen s P = (Q k : ℕ) (c : ChannelSetup) → is-code Q k ≡ true → s .channel Q k ≡ some c → P c
 
-abbrev pub Bits : Channel → Type 0
+abbrev pub Bits : ChannelSetup → Type 0
 Bits c = (i : ℕ) → getD (c .bits) i 0 ≤ 1
 
-abbrev pub Gain : Channel → Type 0
+abbrev pub Gain : ChannelSetup → Type 0
 Gain c = c .gain ≤ 4095

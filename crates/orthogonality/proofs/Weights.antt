@@ -9,7 +9,7 @@ use Rattle.complex.specs.declared.Complex.{Complex}
 use Rattle.complex.specs.Arithmetic.{real, 𝟎, _⊗_, Σ<, Σℤ<}
 use Rattle.complex.proofs.Ring.{real-zero, ⊗-𝟎}
 use Rattle.complex.proofs.Sums.{Σ-𝟎, Σ-cong, Σ-one, Σ-swap, ⊗-Σ, real-Σ}
-use Rattle.codes.specs.Signs.{_at_}
+use Rattle.complex.specs.Buffers.{_at_}
 use Rattle.codes.specs.Range.{each}
 use Rattle.codes.specs.Tree.{is-code, element, related, at-or-above}
 use Rattle.codes.proofs.Tests.{each-at, same, same→eq}

@@ -1,9 +1,9 @@
--- Readings at Q 16: the weights are signs, times j at even places, and the sum over sixteen chips is one over four lanes. At which places j stands is
+-- Readings at Q 16: the multipliers are signs, times j at even places, and the sum over sixteen chips is one over four lanes. At which places j stands is
 -- the code itself: the laws here hold it to the scrambling elements of `codes`. Assumes nothing.
 use mathlib.Core.Path.{_≡_, refl, sym, ap, ap₂, _∙_, subst}
 use mathlib.Core.Bool.{Bool, true, false, cond}
 use mathlib.Core.List.{List}
-use Prim.Native.Nat.{ℕ, zero, suc, _+_, _*_, _/_, _%_, _<_, _≤_}
+use Prim.Native.Nat.{ℕ, zero, suc, _+_, _*_, _/_, _%_, _<_}
 use native.Mathlib.Omega.{arith}
 use borrow.Author.Tests.{eqb-true}
 use lib.Dec.{T, eqb, ltb, lit≤}
@@ -12,7 +12,7 @@ use lib.ListN.{length, getD, drop, List·getD-append}
 use lib.Signed.{ltZ}
 use Rattle.complex.specs.declared.Complex.{Complex}
 use Rattle.complex.specs.Arithmetic.{_+j_, real, 𝟎, _⊕_, _⊗_, conj, j^, Σ<}
-use Rattle.complex.specs.Buffers.{listed, value, written}
+use Rattle.complex.specs.Buffers.{listed, value, written, _at_}
 use Rattle.complex.specs.Fits.{Within, Both}
 use Rattle.complex.proofs.Components.{both-⊕, both-sign}
 use Rattle.complex.proofs.Integers.{ring, negℤ-*ℤ}
@@ -20,14 +20,13 @@ use Rattle.complex.proofs.Lists.{length-listed, listed-at}
 use Rattle.complex.proofs.Ring.{by-components, sums, ⊗-⊕, ⊗-assoc, ⊗-comm, 𝟎-⊕}
 use Rattle.complex.proofs.Rotations.{rotate-0, rotate-1, rotate-2, rotate-3}
 use Rattle.complex.proofs.Sums.{Σ-cong}
-use Rattle.codes.specs.Held.{signed-by-j}
+use Rattle.codes.specs.PackedSigns.{signed-by-j}
 use Rattle.codes.specs.Range.{each}
-use Rattle.codes.specs.Scrambling.{v, scrambling, row}
-use Rattle.codes.specs.Signs.{_at_}
+use Rattle.codes.specs.Scrambling.{v, scrambling, annex-row}
 use Rattle.codes.specs.Tree.{element}
 use Rattle.codes.proofs.Rows.{v-at}
 use Rattle.codes.proofs.Tests.{each-at, T-true}
-use Rattle.read.specs.Held.{weight, place-sign, is-sign, Signs, entry, lane, lanes-of, joined}
+use Rattle.read.specs.Multipliers.{multiplier, place-sign, is-sign, Signs, lane, lanes-of, from-lanes}
 use Rattle.read.specs.Reading.{reading}
 
 -- ---- signs
@@ -55,7 +54,7 @@ minus-sign = of-sign (λ (t : ℤ). ltZ t (pos 0) ≡ true → t ≡ negsuc 0) (
 pub plus-sign : (s : ℤ) → is-sign s ≡ true → ltZ s (pos 0) ≡ false → s ≡ pos 1
 plus-sign = of-sign (λ (t : ℤ). ltZ t (pos 0) ≡ false → t ≡ pos 1) (λ e. refl) (λ e. absurd (subst T e tt))
 
-rows-test : T (each 128 (λ p. each 16 (λ i. is-sign (row p at i))))
+rows-test : T (each 128 (λ p. each 16 (λ i. is-sign (annex-row p at i))))
 unfolding each is-sign _at_
 rows-test = tt
 
@@ -69,7 +68,7 @@ module _ (p k : ℕ) (hp : p < 128) (hk : k < 16) where
   place-sign-is i h = by (ltb (i % 4) 2)
     where
       row-sign : is-sign (v p (i + 1)) ≡ true
-      row-sign = ap is-sign (v-at p i) ∙ T-true _ (each-at 16 (λ i. is-sign (row p at i)) (each-at 128 (λ p. each 16 (λ i. is-sign (row p at i))) rows-test p hp) i h)
+      row-sign = ap is-sign (v-at p i) ∙ T-true _ (each-at 16 (λ i. is-sign (annex-row p at i)) (each-at 128 (λ p. each 16 (λ i. is-sign (annex-row p at i))) rows-test p hp) i h)
 
       both : is-sign (v p (i + 1) *ℤ element 16 k i) ≡ true
       both = sign-*ℤ (v p (i + 1)) (element 16 k i) row-sign
@@ -79,7 +78,7 @@ module _ (p k : ℕ) (hp : p < 128) (hk : k < 16) where
       by true = sign-negℤ _ both
       by false = both
 
--- ---- the weights
+-- ---- the multipliers
 -- a product with a whole number
 real-part : (a b e : ℤ) → a *ℤ e -ℤ b *ℤ pos 0 ≡ a *ℤ e
 real-part a b e = simp ring
@@ -110,9 +109,9 @@ module _ (x e : ℤ) where
 abbrev pub placed : ℕ → Complex → Complex
 placed i x = cond (eqb (i % 2) 0) (j^ 1 ⊗ x) x
 
-pub weight-is : (p k i : ℕ) → i < 16 → weight p 16 k i ≡ placed i (real (place-sign p k i))
-unfolding weight place-sign signed-by-j scrambling
-weight-is p k i h = by (i % 4) refl (omega arith)
+pub multiplier-is : (p k i : ℕ) → i < 16 → multiplier p 16 k i ≡ placed i (real (place-sign p k i))
+unfolding multiplier place-sign signed-by-j scrambling
+multiplier-is p k i h = by (i % 4) refl (omega arith)
   where
     same : i % 16 ≡ i
     same = omega arith
@@ -154,7 +153,7 @@ module _ (p k : ℕ) (chip : ℕ → Complex) (n : ℕ) where
   signed i = real (place-sign p k i) ⊗ chip (16 * n + i)
 
   term : (i : ℕ) → i < 16 → chip (n * 16 + i) ⊗ conj (scrambling p (1 + (n * 16 + i) % 16)) ⊗ real (element 16 k i) ≡ placed i (signed i)
-  unfolding weight signed
+  unfolding multiplier signed
   term i l =
       let m : (n * 16 + i) % 16 ≡ i = omega arith in
       let m′ : 1 + (n * 16 + i) % 16 ≡ i + 1 = omega arith in
@@ -162,7 +161,7 @@ module _ (p k : ℕ) (chip : ℕ → Complex) (n : ℕ) where
       let from : n * 16 + i ≡ 16 * n + i = omega arith in
       ⊗-assoc (chip (n * 16 + i)) _ _
       ∙ (λ j. chip (from j) ⊗ (conj (scrambling p (m′ j)) ⊗ real (element 16 k (c j))))
-      ∙ ap (λ (w : Complex). chip (16 * n + i) ⊗ w) (weight-is p k i l)
+      ∙ ap (λ (w : Complex). chip (16 * n + i) ⊗ w) (multiplier-is p k i l)
       ∙ by (eqb (i % 2) 0)
     where
       by : (t : Bool) → chip (16 * n + i) ⊗ cond t (j^ 1 ⊗ real (place-sign p k i)) (real (place-sign p k i))
@@ -170,9 +169,9 @@ module _ (p k : ℕ) (chip : ℕ → Complex) (n : ℕ) where
       by true = ⊗-comm (chip (16 * n + i)) (j^ 1 ⊗ real (place-sign p k i)) ∙ ⊗-assoc (j^ 1) (real (place-sign p k i)) (chip (16 * n + i))
       by false = ⊗-comm (chip (16 * n + i)) (real (place-sign p k i))
 
-  pub joined-is : joined (lanes-of (place-sign p k) chip) n ≡ reading p 16 k chip n
-  unfolding joined lane reading signed
-  joined-is =
+  pub from-lanes-is : from-lanes (lanes-of (place-sign p k) chip) n ≡ reading p 16 k chip n
+  unfolding from-lanes lane reading signed
+  from-lanes-is =
       let d₀ : 4 * n / 4 ≡ n = omega arith in
       let d₁ : (4 * n + 1) / 4 ≡ n = omega arith in
       let d₂ : (4 * n + 2) / 4 ≡ n = omega arith in
@@ -212,9 +211,9 @@ module _ (f : ℕ → Complex) (d d′ : List ℤ) (n : ℕ) where
           ∙ listed-at g (pos 0) n c l
 
 -- only the lanes of the reading count
-pub joined-cong : (f g : ℕ → Complex) (m : ℕ) → ((c : ℕ) → c < 4 * m + 4 → f c ≡ g c) → joined f m ≡ joined g m
-unfolding joined
-joined-cong f g m h =
+pub from-lanes-cong : (f g : ℕ → Complex) (m : ℕ) → ((c : ℕ) → c < 4 * m + 4 → f c ≡ g c) → from-lanes f m ≡ from-lanes g m
+unfolding from-lanes
+from-lanes-cong f g m h =
     let a = h (4 * m) (omega arith) in
     let b = h (4 * m + 1) (omega arith) in
     let c = h (4 * m + 2) (omega arith) in
@@ -233,16 +232,17 @@ lane-cong s t chip from l h e =
 
 -- the sixteen signs as a list
 module _ (p k : ℕ) {s : List ℤ} (e : s ≡ listed 16 (place-sign p k)) where
-  sign-at : (i : ℕ) → i < 16 → entry s i ≡ place-sign p k i
-  sign-at i l = ap (λ (t : List ℤ). entry t i) e ∙ listed-at (place-sign p k) (pos 0) 16 i l
+  sign-at : (i : ℕ) → i < 16 → s at i ≡ place-sign p k i
+  unfolding _at_
+  sign-at i l = ap (λ (t : List ℤ). t at i) e ∙ listed-at (place-sign p k) (pos 0) 16 i l
 
   pub signs-are : p < 128 → k < 16 → Signs s
-  signs-are hp hk = record { at = λ i l. ap is-sign (sign-at i l) ∙ place-sign-is p k hp hk i l }
+  signs-are hp hk = record { each = λ i l. ap is-sign (sign-at i l) ∙ place-sign-is p k hp hk i l }
 
   -- readings of the lanes
-  pub readings-are : (chip y : ℕ → Complex) (n : ℕ) → ((c : ℕ) → c < 4 * n → y c ≡ lanes-of (entry s) chip c) → (m : ℕ) → m < n
-      → joined y m ≡ reading p 16 k chip m
+  pub readings-are : (chip y : ℕ → Complex) (n : ℕ) → ((c : ℕ) → c < 4 * n → y c ≡ lanes-of (_at_ s) chip c) → (m : ℕ) → m < n
+      → from-lanes y m ≡ reading p 16 k chip m
   readings-are chip y n h m l =
-      joined-cong y (lanes-of (place-sign p k) chip) m
-      (λ c g. h c (omega arith) ∙ lane-cong (entry s) (place-sign p k) chip (16 * (c / 4)) (c % 4) (omega arith) sign-at)
-      ∙ joined-is p k chip m
+      from-lanes-cong y (lanes-of (place-sign p k) chip) m
+      (λ c g. h c (omega arith) ∙ lane-cong (_at_ s) (place-sign p k) chip (16 * (c / 4)) (c % 4) (omega arith) sign-at)
+      ∙ from-lanes-is p k chip m

@@ -1,4 +1,4 @@
--- The laws of readings: the definition by weights, and its fast forms at Q 16 and Q 1.
+-- The laws of readings: the definition by multipliers, and its fast forms at Q 16 and Q 1.
 pub mod Readings
 pub mod Lanes
-pub mod Turns
+pub mod PowersOfJ

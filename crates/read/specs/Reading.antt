@@ -44,6 +44,6 @@ abbrev pub read-call : ℕ → ℕ → ℕ → List ℤ → List ℤ → ℕ →
 read-call p Q k re im m m′ = read-refusals p Q k re im m m′ otherwise in-buffers (length re / Q) (reading p Q k (value re im))
 
 -- ---- document 01's number and values for each case of the answer: the readings are in the answer buffers
-abbrev pub told-read : ReadAnswer → Answer (Unit {0})
-told-read Read = gives tt
-told-read (Refused n) = refused n
+abbrev pub answer-of-read : ReadAnswer → Answer (Unit {0})
+answer-of-read Read = gives tt
+answer-of-read (Refused n) = refused n

@@ -4,7 +4,7 @@ ghost use mathlib.Core.Path.{_≡_};
 ghost use lib.ListN.{length};
 ghost use Rattle.complex.specs.Buffers.{written};
 ghost use Rattle.codes.specs.Refusals.{outcome, after};
-ghost use Rattle.read.specs.Reading.{read-call, told-read};
+ghost use Rattle.read.specs.Reading.{read-call, answer-of-read};
 use codes::CellParameter;
 
 mod one;
@@ -29,7 +29,7 @@ pub fn read(
     outre: &mut [i32],
     outim: &mut [i32],
 ) -> ReadAnswer
-    ensures answer { λ r. ⌜ told-read r ≡ outcome (read-call (cell .0) q k (now (re .entry)) (now (im .entry)) (length (now (outre .entry))) (length (now (outim .entry)))) ⌝ }
+    ensures answer { λ r. ⌜ answer-of-read r ≡ outcome (read-call (cell .0) q k (now (re .entry)) (now (im .entry)) (length (now (outre .entry))) (length (now (outim .entry)))) ⌝ }
     ensures real { λ r. ⌜ now (outre .exit) ≡ after (read-call (cell .0) q k (now (re .entry)) (now (im .entry)) (length (now (outre .entry))) (length (now (outim .entry)))) (now (outre .entry)) (λ y. written (y .re) (now (outre .entry))) ⌝ }
     ensures imaginary { λ r. ⌜ now (outim .exit) ≡ after (read-call (cell .0) q k (now (re .entry)) (now (im .entry)) (length (now (outre .entry))) (length (now (outim .entry)))) (now (outim .entry)) (λ y. written (y .im) (now (outim .entry))) ⌝ }
 {

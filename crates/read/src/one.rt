@@ -1,4 +1,4 @@
-// Readings at spreading factor 1: each chip times its weight. One component of a weight is 0 and the other 1 or -1, so that a product is a choice
+// Readings at spreading factor 1: each chip times its multiplier. One component of a multiplier is 0 and the other 1 or -1, so that a product is a choice
 // between the chip's components and a change of sign, which are vector code where products of 32-bit numbers are not.
 ghost use mathlib.Core.Path.{_≡_};
 ghost use mathlib.Core.List.{List};
@@ -10,14 +10,14 @@ ghost use mir.Val.{SFits};
 ghost use Rattle.complex.specs.Arithmetic.{_+j_, _⊗_};
 ghost use Rattle.complex.specs.Buffers.{listed, value, written};
 ghost use Rattle.complex.specs.Fits.{Both, Bound};
-ghost use Rattle.read.specs.Held.{Turn, Turns};
+ghost use Rattle.read.specs.Multipliers.{PowerOfJ, PowersOfJ};
 ghost use Rattle.read.specs.Reading.{reading as reading-of};
 use crate::reading;
 use crate::signed::both_signed;
 use codes::CellParameter;
 use complex::Complex;
 
-// The components change places where the weight's real part is 0.
+// The components change places where the multiplier's real part is 0.
 fn arranged(x: Complex, w: Complex) -> Complex
     ensures zero { λ r. ⌜ (w .re ≡ pos 0 → r ≡ (x .im +j x .re)) ⌝ }
     ensures other { λ r. ⌜ ((w .re ≡ pos 0 → ⊥) → r ≡ x) ⌝ }
@@ -29,7 +29,7 @@ fn arranged(x: Complex, w: Complex) -> Complex
     }
 }
 
-// With one component 0: the sign of the real part.
+// Of a multiplier, which has one component 0: the sign of the real part of its product.
 fn difference(w: Complex) -> i32
     requires { ⌜ SFits w32 (w .re -ℤ w .im) ⌝ }
     ensures { λ r. ⌜ r ≡ w .re -ℤ w .im ⌝ }
@@ -37,7 +37,7 @@ fn difference(w: Complex) -> i32
     w.re - w.im
 }
 
-// With one component 0: the sign of the imaginary part.
+// Of a multiplier, which has one component 0: the sign of the imaginary part of its product.
 fn sum(w: Complex) -> i32
     requires { ⌜ SFits w32 (w .re +ℤ w .im) ⌝ }
     ensures { λ r. ⌜ r ≡ w .re +ℤ w .im ⌝ }
@@ -45,9 +45,9 @@ fn sum(w: Complex) -> i32
     w.re + w.im
 }
 
-// A chip times its weight.
+// A chip times its multiplier.
 fn product(x: Complex, w: Complex) -> Complex
-    requires { ⌜ Turn w × Both 100000 x ⌝ }
+    requires { ⌜ PowerOfJ w × Both 100000 x ⌝ }
     ensures { λ r. ⌜ r ≡ x ⊗ w ⌝ }
 {
     both_signed(difference(w), sum(w), arranged(x, w))
@@ -60,7 +60,7 @@ pub struct Products {
 
 // The products of sixteen chips from `at` on, all read before any is written, for the compiler cannot tell the answer buffers from the chips'.
 fn sixteen_products(wre: &[i32; 16], wim: &[i32; 16], re: &[i32], im: &[i32], at: usize) -> Products
-    requires { ⌜ (at + 16 ≤ length (now re)) × (at + 16 ≤ length (now im)) × Turns (now wre) (now wim) × Bound 100000 (now re) × Bound 100000 (now im) ⌝ }
+    requires { ⌜ (at + 16 ≤ length (now re)) × (at + 16 ≤ length (now im)) × PowersOfJ (now wre) (now wim) × Bound 100000 (now re) × Bound 100000 (now im) ⌝ }
     ensures real { λ r. ⌜ r .re ≡ listed 16 (λ i. (value (now (re .entry)) (now (im .entry)) (at + i) ⊗ value (now (wre .entry)) (now (wim .entry)) i) .re) ⌝ }
     ensures imaginary { λ r. ⌜ r .im ≡ listed 16 (λ i. (value (now (re .entry)) (now (im .entry)) (at + i) ⊗ value (now (wre .entry)) (now (wim .entry)) i) .im) ⌝ }
 {
@@ -103,7 +103,7 @@ pub fn all(
     ensures real { λ r. ⌜ now (outre .exit) ≡ written (listed (length (now (re .entry))) (λ n. reading-of (cell .0) 1 k (value (now (re .entry)) (now (im .entry))) n .re)) (now (outre .entry)) ⌝ }
     ensures imaginary { λ r. ⌜ now (outim .exit) ≡ written (listed (length (now (re .entry))) (λ n. reading-of (cell .0) 1 k (value (now (re .entry)) (now (im .entry))) n .im)) (now (outim .entry)) ⌝ }
 {
-    let w = reading::weights(cell, 1, k);
+    let w = reading::multipliers(cell, 1, k);
     let wre = w.re;
     let wim = w.im;
     for m in 0..re.len() / 16 {

@@ -5,10 +5,10 @@ ghost use Prim.Native.Nat.{_+_, _/_, _%_, _<_, _≤_};
 ghost use lib.ListN.{length};
 ghost use Rattle.complex.specs.Fits.{Bound};
 ghost use Rattle.complex.specs.Buffers.{listed, value, written};
-ghost use Rattle.codes.specs.Refusals.{number};
+ghost use Rattle.codes.specs.Refusals.{refusal-number};
 ghost use Rattle.codes.specs.Tree.{is-spreading-factor};
 ghost use Rattle.read.specs.Reading.{no-field, read-refusals, reading as reading-of};
-ghost use Rattle.read.specs.Held.{weighed, weight as weight-of};
+ghost use Rattle.read.specs.Multipliers.{multiplied-sum, multiplier as multiplier-of};
 use crate::one;
 use crate::sixteen;
 use analyser_parts::components;
@@ -34,7 +34,7 @@ pub fn refusal(
     m: usize,
     n: usize,
 ) -> u32
-    ensures { λ r. ⌜ r ≡ number (read-refusals (cell .0) q k (now (re .entry)) (now (im .entry)) m n) ⌝ }
+    ensures { λ r. ⌜ r ≡ refusal-number (read-refusals (cell .0) q k (now (re .entry)) (now (im .entry)) m n) ⌝ }
 {
     if 128 <= cell.0 {
         return 1;
@@ -61,9 +61,9 @@ pub fn refusal(
 }
 
 // What chip i of each sixteen is multiplied by.
-fn weight(cell: CellParameter, q: u32, k: u32, i: u32) -> Complex
+fn multiplier(cell: CellParameter, q: u32, k: u32, i: u32) -> Complex
     requires { ⌜ 0 < q ⌝ }
-    ensures { λ r. ⌜ r ≡ weight-of (cell .0) q k i ⌝ }
+    ensures { λ r. ⌜ r ≡ multiplier-of (cell .0) q k i ⌝ }
 {
     let sign = Complex {
         re: tree::code_sign(q, k, i % q),
@@ -72,29 +72,29 @@ fn weight(cell: CellParameter, q: u32, k: u32, i: u32) -> Complex
     scrambling::element(cell, i).conjugate().times(sign)
 }
 
-// The sixteen weights of a code, component by component.
-pub struct CodeWeights {
+// The sixteen multipliers of a code, component by component.
+pub struct CodeMultipliers {
     pub re: [i32; 16],
     pub im: [i32; 16],
 }
 
-pub fn weights(cell: CellParameter, q: u32, k: u32) -> CodeWeights
+pub fn multipliers(cell: CellParameter, q: u32, k: u32) -> CodeMultipliers
     requires { ⌜ 0 < q ⌝ }
-    ensures { λ r. ⌜ (r .re ≡ listed 16 (λ i. weight-of (cell .0) q k i .re)) × (r .im ≡ listed 16 (λ i. weight-of (cell .0) q k i .im)) ⌝ }
+    ensures { λ r. ⌜ (r .re ≡ listed 16 (λ i. multiplier-of (cell .0) q k i .re)) × (r .im ≡ listed 16 (λ i. multiplier-of (cell .0) q k i .im)) ⌝ }
 {
     let mut re = [0i32; 16];
     let mut im = [0i32; 16];
     for i in 0..16 {
-        let w = weight(cell, q, k, i as u32);
+        let w = multiplier(cell, q, k, i as u32);
         let a = w.re;
         let b = w.im;
         re[i] = a;
         im[i] = b;
     }
-    CodeWeights { re: re, im: im }
+    CodeMultipliers { re: re, im: im }
 }
 
-// The sum of q chips from `from` on, each with its weight.
+// The sum of q chips from `from` on, each with its multiplier.
 fn reading(
     re: &[i32],
     im: &[i32],
@@ -105,7 +105,7 @@ fn reading(
 ) -> Complex
     requires { ⌜ (from + q ≤ length (now re)) × (from + q ≤ length (now im)) × (length (now re) ≤ 1104) × (q ≤ 16) ⌝ }
     requires { ⌜ Bound 100000 (now re) × Bound 100000 (now im) × Bound 1 (now wre) × Bound 1 (now wim) ⌝ }
-    ensures { λ r. ⌜ r ≡ weighed (value (now (re .entry)) (now (im .entry))) (value (now (wre .entry)) (now (wim .entry))) from q ⌝ }
+    ensures { λ r. ⌜ r ≡ multiplied-sum (value (now (re .entry)) (now (im .entry))) (value (now (wre .entry)) (now (wim .entry))) from q ⌝ }
 {
     let mut sum = Complex { re: 0, im: 0 };
     for i in 0..q {
@@ -116,7 +116,7 @@ fn reading(
     sum
 }
 
-// Every reading of any code, to the answer buffers: the weights repeat every sixteen chips, so they are made once.
+// Every reading of any code, to the answer buffers: the multipliers repeat every sixteen chips, so they are made once.
 fn by_products(
     cell: CellParameter,
     q: u32,
@@ -131,7 +131,7 @@ fn by_products(
     ensures real { λ r. ⌜ now (outre .exit) ≡ written (listed (length (now (re .entry)) / q) (λ n. reading-of (cell .0) q k (value (now (re .entry)) (now (im .entry))) n .re)) (now (outre .entry)) ⌝ }
     ensures imaginary { λ r. ⌜ now (outim .exit) ≡ written (listed (length (now (re .entry)) / q) (λ n. reading-of (cell .0) q k (value (now (re .entry)) (now (im .entry))) n .im)) (now (outim .entry)) ⌝ }
 {
-    let w = weights(cell, q, k);
+    let w = multipliers(cell, q, k);
     let wre = w.re;
     let wim = w.im;
     let step = q as usize;

@@ -4,7 +4,7 @@ ghost use mathlib.Core.Bool.{true};
 ghost use lib.IntN.{_*ℤ_};
 ghost use Rattle.complex.specs.Arithmetic.{_+j_};
 ghost use Rattle.complex.specs.Fits.{Within, Both};
-ghost use Rattle.read.specs.Held.{is-sign};
+ghost use Rattle.read.specs.Multipliers.{is-sign};
 use complex::Complex;
 
 // x times a sign.

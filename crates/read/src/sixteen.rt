@@ -1,4 +1,4 @@
-// Readings at spreading factor 16. Each weight is 1 or -1, times j at even places, so the chips keep or change their signs and no product is needed.
+// Readings at spreading factor 16. Each multiplier is 1 or -1, times j at even places, so the chips keep or change their signs and no product is needed.
 ghost use mathlib.Core.Path.{_≡_};
 ghost use mathlib.Core.List.{List};
 ghost use Prim.Native.Nat.{ℕ, _+_, _*_, _/_, _<_, _≤_};
@@ -7,11 +7,11 @@ ghost use lib.ListN.{length};
 ghost use mir.Syntax.{w32};
 ghost use mir.Val.{SFits};
 ghost use Rattle.complex.specs.Arithmetic.{real, _⊗_};
-ghost use Rattle.complex.specs.Buffers.{listed, value, written};
+ghost use Rattle.complex.specs.Buffers.{listed, value, written, _at_};
 ghost use Rattle.complex.specs.Fits.{Both, Bound};
-ghost use Rattle.codes.specs.Held.{sign-bit, signed-by-j};
+ghost use Rattle.codes.specs.PackedSigns.{sign-bit, signed-by-j};
 ghost use Rattle.codes.specs.Tree.{element};
-ghost use Rattle.read.specs.Held.{entry, joined as joined-of, lane as lane-of, lanes-of, place-sign, Signs};
+ghost use Rattle.read.specs.Multipliers.{from-lanes, lane as lane-of, lanes-of, place-sign, Signs};
 ghost use Rattle.read.specs.Reading.{reading as reading-of};
 use crate::signed::both_signed;
 use codes::CellParameter;
@@ -28,7 +28,7 @@ fn product(s: i32, t: i32) -> i32
     s * t
 }
 
-// The sign of the weight at place i, for a row of Annex A.
+// The sign of the multiplier at place i, for a row of Annex A.
 fn sign(row: u32, k: u32, i: u32) -> i32
     ensures { λ r. ⌜ r ≡ signed-by-j (sign-bit row i *ℤ element 16 k i) i ⌝ }
 {
@@ -49,24 +49,24 @@ fn signs(cell: CellParameter, k: u32) -> [i32; 16]
 }
 
 // The chip at place i of sixteen, with its sign.
-fn signed_at(s: &[i32; 16], re: &[i32], im: &[i32], at: usize, i: usize) -> Complex
-    requires { ⌜ (at + 16 ≤ length (now re)) × (at + 16 ≤ length (now im)) × (i < 16) × Signs (now s) × Bound 100000 (now re) × Bound 100000 (now im) ⌝ }
-    ensures is { λ r. ⌜ r ≡ real (entry (now (s .entry)) i) ⊗ value (now (re .entry)) (now (im .entry)) (at + i) ⌝ }
+fn signed_at(s: &[i32; 16], re: &[i32], im: &[i32], from: usize, i: usize) -> Complex
+    requires { ⌜ (from + 16 ≤ length (now re)) × (from + 16 ≤ length (now im)) × (i < 16) × Signs (now s) × Bound 100000 (now re) × Bound 100000 (now im) ⌝ }
+    ensures is { λ r. ⌜ r ≡ real (now (s .entry) at i) ⊗ value (now (re .entry)) (now (im .entry)) (from + i) ⌝ }
     ensures size { λ r. ⌜ Both 100000 r ⌝ }
 {
     let t = s[i];
-    both_signed(t, t, complex::value_at(re, im, at + i))
+    both_signed(t, t, complex::value_at(re, im, from + i))
 }
 
 // The sum of four chips with their signs, four places apart: l, l + 4, l + 8 and l + 12.
-fn lane(s: &[i32; 16], re: &[i32], im: &[i32], at: usize, l: usize) -> Complex
-    requires { ⌜ (at + 16 ≤ length (now re)) × (at + 16 ≤ length (now im)) × (l < 4) × Signs (now s) × Bound 100000 (now re) × Bound 100000 (now im) ⌝ }
-    ensures { λ r. ⌜ r ≡ lane-of (entry (now (s .entry))) (value (now (re .entry)) (now (im .entry))) at l ⌝ }
+fn lane(s: &[i32; 16], re: &[i32], im: &[i32], from: usize, l: usize) -> Complex
+    requires { ⌜ (from + 16 ≤ length (now re)) × (from + 16 ≤ length (now im)) × (l < 4) × Signs (now s) × Bound 100000 (now re) × Bound 100000 (now im) ⌝ }
+    ensures { λ r. ⌜ r ≡ lane-of (_at_ (now (s .entry))) (value (now (re .entry)) (now (im .entry))) from l ⌝ }
 {
-    let a = signed_at(s, re, im, at, l);
-    let b = signed_at(s, re, im, at, l + 4);
-    let c = signed_at(s, re, im, at, l + 8);
-    let d = signed_at(s, re, im, at, l + 12);
+    let a = signed_at(s, re, im, from, l);
+    let b = signed_at(s, re, im, from, l + 4);
+    let c = signed_at(s, re, im, from, l + 8);
+    let d = signed_at(s, re, im, from, l + 12);
     a.plus(b).plus(c).plus(d)
 }
 
@@ -80,8 +80,8 @@ fn put_lanes(
     v: &mut [i32; 276],
 )
     requires { ⌜ (16 * m + 16 ≤ length (now re)) × (length (now re) ≡ length (now im)) × (length (now re) ≤ 1104) × Signs (now s) × Bound 100000 (now re) × Bound 100000 (now im) ⌝ }
-    ensures real { λ r. ⌜ ((d : List ℤ) → length d ≡ 276 → now (u .entry) ≡ written (listed (4 * m) (λ c. lanes-of (entry (now (s .entry))) (value (now (re .entry)) (now (im .entry))) c .re)) d → now (u .exit) ≡ written (listed (4 * m + 4) (λ c. lanes-of (entry (now (s .entry))) (value (now (re .entry)) (now (im .entry))) c .re)) d) ⌝ }
-    ensures imaginary { λ r. ⌜ ((d : List ℤ) → length d ≡ 276 → now (v .entry) ≡ written (listed (4 * m) (λ c. lanes-of (entry (now (s .entry))) (value (now (re .entry)) (now (im .entry))) c .im)) d → now (v .exit) ≡ written (listed (4 * m + 4) (λ c. lanes-of (entry (now (s .entry))) (value (now (re .entry)) (now (im .entry))) c .im)) d) ⌝ }
+    ensures real { λ r. ⌜ ((d : List ℤ) → length d ≡ 276 → now (u .entry) ≡ written (listed (4 * m) (λ c. lanes-of (_at_ (now (s .entry))) (value (now (re .entry)) (now (im .entry))) c .re)) d → now (u .exit) ≡ written (listed (4 * m + 4) (λ c. lanes-of (_at_ (now (s .entry))) (value (now (re .entry)) (now (im .entry))) c .re)) d) ⌝ }
+    ensures imaginary { λ r. ⌜ ((d : List ℤ) → length d ≡ 276 → now (v .entry) ≡ written (listed (4 * m) (λ c. lanes-of (_at_ (now (s .entry))) (value (now (re .entry)) (now (im .entry))) c .im)) d → now (v .exit) ≡ written (listed (4 * m + 4) (λ c. lanes-of (_at_ (now (s .entry))) (value (now (re .entry)) (now (im .entry))) c .im)) d) ⌝ }
 {
     for l in 0..4 {
         let y = lane(s, re, im, 16 * m, l);
@@ -95,8 +95,8 @@ fn put_lanes(
 // The lanes of every sixteen chips.
 fn put_all_lanes(s: &[i32; 16], re: &[i32], im: &[i32], u: &mut [i32; 276], v: &mut [i32; 276])
     requires { ⌜ (length (now re) ≡ length (now im)) × (length (now re) ≤ 1104) × Signs (now s) × Bound 100000 (now re) × Bound 100000 (now im) × (length (now u) ≡ 276) × (length (now v) ≡ 276) ⌝ }
-    ensures real { λ r. ⌜ now (u .exit) ≡ written (listed (4 * (length (now (re .entry)) / 16)) (λ c. lanes-of (entry (now (s .entry))) (value (now (re .entry)) (now (im .entry))) c .re)) (now (u .entry)) ⌝ }
-    ensures imaginary { λ r. ⌜ now (v .exit) ≡ written (listed (4 * (length (now (re .entry)) / 16)) (λ c. lanes-of (entry (now (s .entry))) (value (now (re .entry)) (now (im .entry))) c .im)) (now (v .entry)) ⌝ }
+    ensures real { λ r. ⌜ now (u .exit) ≡ written (listed (4 * (length (now (re .entry)) / 16)) (λ c. lanes-of (_at_ (now (s .entry))) (value (now (re .entry)) (now (im .entry))) c .re)) (now (u .entry)) ⌝ }
+    ensures imaginary { λ r. ⌜ now (v .exit) ≡ written (listed (4 * (length (now (re .entry)) / 16)) (λ c. lanes-of (_at_ (now (s .entry))) (value (now (re .entry)) (now (im .entry))) c .im)) (now (v .entry)) ⌝ }
 {
     for m in 0..re.len() / 16 {
         put_lanes(s, re, im, m, u, v);
@@ -104,9 +104,9 @@ fn put_all_lanes(s: &[i32; 16], re: &[i32], im: &[i32], u: &mut [i32; 276], v: &
 }
 
 // A reading from its four lanes.
-fn joined(u: &[i32; 276], v: &[i32; 276], m: usize) -> Complex
+fn from_lanes(u: &[i32; 276], v: &[i32; 276], m: usize) -> Complex
     requires { ⌜ (m < 69) × Both 400000 (value (now u) (now v) (4 * m)) × Both 400000 (value (now u) (now v) (4 * m + 1)) × Both 400000 (value (now u) (now v) (4 * m + 2)) × Both 400000 (value (now u) (now v) (4 * m + 3)) ⌝ }
-    ensures { λ r. ⌜ r ≡ joined-of (value (now (u .entry)) (now (v .entry))) m ⌝ }
+    ensures { λ r. ⌜ r ≡ from-lanes (value (now (u .entry)) (now (v .entry))) m ⌝ }
 {
     let even = complex::value_at(u, v, 4 * m).plus(complex::value_at(u, v, 4 * m + 2));
     let odd = complex::value_at(u, v, 4 * m + 1).plus(complex::value_at(u, v, 4 * m + 3));
@@ -114,13 +114,13 @@ fn joined(u: &[i32; 276], v: &[i32; 276], m: usize) -> Complex
 }
 
 // The first n readings, to the answer buffers.
-fn join_all(u: &[i32; 276], v: &[i32; 276], n: usize, outre: &mut [i32], outim: &mut [i32])
+fn all_from_lanes(u: &[i32; 276], v: &[i32; 276], n: usize, outre: &mut [i32], outim: &mut [i32])
     requires { ⌜ (n ≤ 69) × (n ≤ length (now outre)) × (n ≤ length (now outim)) × ((c : ℕ) → c < 4 * n → Both 400000 (value (now u) (now v) c)) ⌝ }
-    ensures real { λ r. ⌜ now (outre .exit) ≡ written (listed n (λ m. joined-of (value (now (u .entry)) (now (v .entry))) m .re)) (now (outre .entry)) ⌝ }
-    ensures imaginary { λ r. ⌜ now (outim .exit) ≡ written (listed n (λ m. joined-of (value (now (u .entry)) (now (v .entry))) m .im)) (now (outim .entry)) ⌝ }
+    ensures real { λ r. ⌜ now (outre .exit) ≡ written (listed n (λ m. from-lanes (value (now (u .entry)) (now (v .entry))) m .re)) (now (outre .entry)) ⌝ }
+    ensures imaginary { λ r. ⌜ now (outim .exit) ≡ written (listed n (λ m. from-lanes (value (now (u .entry)) (now (v .entry))) m .im)) (now (outim .entry)) ⌝ }
 {
     for m in 0..n {
-        let y = joined(u, v, m);
+        let y = from_lanes(u, v, m);
         let a = y.re;
         let b = y.im;
         outre[m] = a;
@@ -146,5 +146,5 @@ pub fn all(
     let mut u = [0i32; 276];
     let mut v = [0i32; 276];
     put_all_lanes(&s, re, im, &mut u, &mut v);
-    join_all(&u, &v, re.len() / 16, outre, outim);
+    all_from_lanes(&u, &v, re.len() / 16, outre, outim);
 }

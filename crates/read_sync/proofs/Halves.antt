@@ -16,13 +16,13 @@ use Rattle.complex.proofs.Components.{within-Σℤ}
 use Rattle.complex.proofs.Integers.{ring, negℤ-*ℤ}
 use Rattle.complex.proofs.Sizes.{within-more, within-mul}
 use Rattle.complex.proofs.Sums.{Σℤ-cong}
-use Rattle.codes.specs.Held.{packed, sign-bit}
+use Rattle.codes.specs.PackedSigns.{packed, sign-bit}
 use Rattle.codes.specs.Range.{each}
 use Rattle.codes.specs.SyncCodes.{a, b}
 use Rattle.codes.proofs.Rows.{sign-within}
 use Rattle.codes.proofs.Tests.{each-at, same, same→eq}
-use Rattle.analyser_parts.specs.Held.{signed-sum}
-use Rattle.read_sync.specs.Held.{half-sum}
+use Rattle.analyser_parts.specs.PartSums.{signed-sum}
+use Rattle.read_sync.specs.Shares.{half-sum}
 
 -- a sum of m terms and of those after them
 Σℤ-after : (m n : ℕ) (f : ℕ → ℤ) → Σℤ< (m + n) f ≡ Σℤ< m f +ℤ Σℤ< n (λ i. f (m + i))

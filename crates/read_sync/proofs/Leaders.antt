@@ -11,7 +11,7 @@ use lib.IntN.{ℤ}
 use lib.Signed.{leZ, ltZ}
 use Rattle.complex.proofs.Integers.{by-parts}
 use Rattle.complex.proofs.Order.{ltZ-true, ltZ-false, leZ-true, le-leZ, lt-ltZ}
-use Rattle.read_sync.specs.Held.{leader-or-later, Leads}
+use Rattle.read_sync.specs.Leaders.{leader-or-later, Leads}
 use Rattle.read_sync.specs.declared.sync_reading.Leader.{Leader}
 
 -- only the n scores count

@@ -14,7 +14,7 @@ use Rattle.codes.specs.Range.{each}
 use Rattle.codes.proofs.Tests.{each-all, each-not}
 use Rattle.analyser_parts.specs.Choice.{smallest, beats-others}
 use Rattle.analyser_parts.proofs.Smallest.{smallest-is, smallest-none}
-use Rattle.read_sync.specs.Held.{Leads}
+use Rattle.read_sync.specs.Leaders.{Leads}
 use Rattle.read_sync.specs.declared.sync_reading.Leader.{Leader}
 
 -- ---- the number whose value is larger than that of every other

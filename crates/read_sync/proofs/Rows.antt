@@ -16,11 +16,12 @@ use Rattle.codes.specs.Signs.{minus-if}
 use Rattle.codes.specs.Range.{each}
 use Rattle.codes.specs.declared.ModulatedCode.{ModulatedCode}
 use Rattle.codes.specs.declared.Allocated.{Allocated}
-use Rattle.codes.specs.Allocation.{allocation, case-1, case-2, code-set, is-frame-and-half, one-or-two, row, signed}
+use Rattle.codes.specs.Allocation.{allocation, case-1, case-2, code-set, bad-frame-or-half, one-or-two, allocation-row, signed}
 use Rattle.codes.proofs.Tests.{each-at, none-of, same, same→eq}
 use Rattle.analyser_parts.proofs.Products.{times-conj}
-use Rattle.read_sync.specs.SyncReading.{candidate, candidates, sent}
-use Rattle.read_sync.specs.Held.{leader-of-row, leader-of-signs, Leads, Led, place-in-row, share-of, shares-of}
+use Rattle.read_sync.specs.SyncReading.{candidate, candidates, candidate-codes}
+use Rattle.read_sync.specs.Shares.{share-of, shares-of}
+use Rattle.read_sync.specs.Leaders.{leader-of-row, leader-of-signs, Leads, Led, place-in-row}
 use Rattle.read_sync.specs.declared.sync_reading.Leader.{Leader}
 use Rattle.read_sync.proofs.Leaders.{leads-cong, leads-placed}
 use Rattle.read_sync.proofs.SumLeaders.{leads-of-signs, leads-with, with-led}
@@ -60,12 +61,9 @@ places case h k l =
     let c = and-yes (eqb (place-in-row case (signs-at case k)) k) _ (b .1) in
     (ltb→lt _ 8 (a .0), ltb→lt _ 8 (b .0), eqb→eq _ k (c .0), eqb→eq _ k (c .1))
 
-pub row-below : (case : ℕ) → case < 3 → {k : ℕ} {first second marker : Leader} → Led k 2 first → Led k 2 second → Led k 2 marker → leader-of-row case first second marker .at < 8
-row-below case h f s m = places case h _ (with-led (with-led f s) m .below) .0
-
 -- ---- the signs of a row's codes
 abbrev pub codes : ℕ → ℕ → Allocated
-codes case n = sent case (candidate case n)
+codes case n = candidate-codes case (candidate case n)
 
 -- the same code, with its unit times s
 with-sign : ℤ → ModulatedCode → ModulatedCode → Bool
@@ -81,7 +79,7 @@ row-of-signs case r k =
     with-sign (negative (k / 2 / 2)) (m .first) (o .first) && (with-sign (negative (k / 2 % 2)) (m .second) (o .second) && with-sign (negative (k % 2)) (m .marker) (o .marker))
 
 rows-test : T (each 3 (λ case. each (8 * case) (λ r. each 8 (row-of-signs case r))))
-unfolding each row-of-signs with-sign same place-in-row candidate allocation case-1 case-2 code-set is-frame-and-half one-or-two row signed real 𝟎 𝟏 𝐣 _⊗_
+unfolding each row-of-signs with-sign same place-in-row candidate allocation case-1 case-2 code-set bad-frame-or-half one-or-two allocation-row signed real 𝟎 𝟏 𝐣 _⊗_
 rows-test = tt
 
 -- a share follows the sign of its code

@@ -15,10 +15,11 @@ use Rattle.complex.proofs.Ring.{by-components}
 use Rattle.codes.specs.Range.{each}
 use Rattle.codes.specs.declared.ModulatedCode.{ModulatedCode}
 use Rattle.codes.specs.declared.burst.CodeSet.{CodeSet}
-use Rattle.codes.specs.Allocation.{allocation, case-1, case-2, code-set, is-frame-and-half, one-or-two, row, signed}
+use Rattle.codes.specs.Allocation.{allocation, case-1, case-2, code-set, bad-frame-or-half, one-or-two, allocation-row, signed}
 use Rattle.codes.proofs.Tests.{each-at, same, same→eq}
 use Rattle.read_sync.specs.SyncReading.{candidate}
-use Rattle.read_sync.specs.Held.{leader-in-row, leader-of-row, leader-of-signs, leader-or-later, Leads, share-of, shares-of, SmallSet}
+use Rattle.read_sync.specs.Shares.{share-of, shares-of}
+use Rattle.read_sync.specs.Leaders.{leader-in-row, leader-of-row, leader-of-signs, leader-or-later, Leads, SmallSet}
 use Rattle.read_sync.specs.declared.sync_reading.Leader.{Leader}
 use Rattle.read_sync.proofs.Leaders.{leads-cong, leads-or-later}
 use Rattle.read_sync.proofs.Rows.{codes, row-leads}
@@ -28,12 +29,12 @@ sends i u m = eqb (m .code) i && (same (m .unit .re) (u .re) && same (m .unit .i
 
 row-sends : ℕ → ℕ → ℕ → Bool
 row-sends case n q =
-    let w = row q (code-set (1 + n)) in
+    let w = allocation-row q (code-set (1 + n)) in
     let o = codes case (8 * (4 * n + q)) in
     sends (w .first) (w .unit) (o .first) && (sends (w .second) (w .unit) (o .second) && sends (w .marker) 𝟏 (o .marker))
 
 sets-test : T (each 3 (λ case. each (2 * case) (λ n. each 4 (row-sends case n))))
-unfolding each row-sends sends same candidate allocation case-1 case-2 code-set is-frame-and-half one-or-two row signed real 𝟎 𝟏 𝐣 _⊗_
+unfolding each row-sends sends same candidate allocation case-1 case-2 code-set bad-frame-or-half one-or-two allocation-row signed real 𝟎 𝟏 𝐣 _⊗_
 sets-test = tt
 
 -- the codes of a set have products
@@ -52,8 +53,8 @@ set-small n h =
     let b = and-yes (ltb (s .b) 16) _ (a .1) in
     record { a = ltb→lt (s .a) 16 (a .0); b = ltb→lt (s .b) 16 (b .0); d = ltb→lt (s .d) 16 (b .1) }
 
-pub row-small : (q : ℕ) (s : CodeSet) → q < 4 → SmallSet s → (row q s .first < 16) × (row q s .second < 16) × (row q s .marker < 16)
-unfolding row
+pub row-small : (q : ℕ) (s : CodeSet) → q < 4 → SmallSet s → (allocation-row q s .first < 16) × (allocation-row q s .second < 16) × (allocation-row q s .marker < 16)
+unfolding allocation-row
 row-small zero s l h = (h .a, h .b, h .d)
 row-small (suc zero) s l h = (h .a, h .b, h .d)
 row-small (suc (suc zero)) s l h = (h .a, h .d, h .b)
@@ -93,8 +94,8 @@ j-re = refl
 
 -- which part of a product a row's unit takes
 pub by-unit : (q : ℕ) (s : CodeSet) (x : Complex) → q < 4
-    → (row q s .unit .re ≡ pos 0 → (x ⊗ conj (row q s .unit)) .re ≡ x .im) × (row q s .unit .re ≢ pos 0 → (x ⊗ conj (row q s .unit)) .re ≡ x .re)
-unfolding row
+    → (allocation-row q s .unit .re ≡ pos 0 → (x ⊗ conj (allocation-row q s .unit)) .re ≡ x .im) × (allocation-row q s .unit .re ≢ pos 0 → (x ⊗ conj (allocation-row q s .unit)) .re ≡ x .re)
+unfolding allocation-row
 by-unit zero s x l = (λ e. absurd (one-re e), λ n. by-one x)
 by-unit (suc zero) s x l = (λ e. by-j x, λ n. absurd (n j-re))
 by-unit (suc (suc zero)) s x l = (λ e. by-j x, λ n. absurd (n j-re))
@@ -109,11 +110,11 @@ module _ (d : ℕ → Complex) (case n : ℕ) (h : case < 3) (g : n < 2 * case) 
   score-at k = shares-of d (codes case (32 * n + k))
 
   -- row q, whose candidates begin at x
-  pub row-of-set : (q x : ℕ) → q < 4 → x ≡ 8 * q → Leads (λ k. score-at (x + k)) 8 (leader-in-row case d (row q set))
+  pub row-of-set : (q x : ℕ) → q < 4 → x ≡ 8 * q → Leads (λ k. score-at (x + k)) 8 (leader-in-row case d (allocation-row q set))
   unfolding row-sends
   row-of-set q x l e =
       let o = codes case (8 * (4 * n + q)) in
-      let w = row q set in
+      let w = allocation-row q set in
       let a = and-yes (sends (w .first) (w .unit) (o .first)) _ (each-at 4 (row-sends case n) (each-at (2 * case) (λ n. each 4 (row-sends case n)) (each-at 3 (λ case. each (2 * case) (λ n. each 4 (row-sends case n))) sets-test case h) n g) q l) in
       let b = and-yes (sends (w .second) (w .unit) (o .second)) _ (a .1) in
       let first-is = share-sent d (w .first) (w .unit) (o .first) (a .0) in
@@ -127,7 +128,7 @@ module _ (d : ℕ → Complex) (case n : ℕ) (h : case < 3) (g : n < 2 * case) 
       place k = omega (arith, e)
 
   abbrev in-row : ℕ → Leader
-  in-row q = leader-in-row case d (row q set)
+  in-row q = leader-in-row case d (allocation-row q set)
 
   pub set-leads : Leads score-at 32 (leader-or-later (leader-or-later (leader-or-later (in-row 0) 8 (in-row 1)) 16 (in-row 2)) 24 (in-row 3))
   set-leads =

@@ -13,18 +13,18 @@ use Rattle.complex.proofs.Ring.{⊗-swap}
 use Rattle.complex.proofs.Components.{both-conj, both-⊗}
 use Rattle.complex.proofs.Lists.{value-in-buffers}
 use Rattle.complex.proofs.Bounds.{bound-listed}
-use Rattle.codes.specs.Held.{packed, secondary-row}
+use Rattle.codes.specs.PackedSigns.{packed, secondary-row}
 use Rattle.codes.specs.declared.ModulatedCode.{ModulatedCode}
 use Rattle.codes.specs.SyncCodes.{b, is-sync-code}
 use Rattle.codes.proofs.Tests.{T-true}
 use Rattle.codes.proofs.Parts.{sync-code-below}
 use Rattle.codes.proofs.Allocations.{Known, allocation-known}
 use Rattle.analyser_parts.specs.Correlation.{P, S}
-use Rattle.analyser_parts.specs.Held.{correlated, part-sums}
+use Rattle.analyser_parts.specs.PartSums.{correlated, part-sums}
 use Rattle.analyser_parts.proofs.Bounds.{signed-sum-within}
 use Rattle.analyser_parts.proofs.Correlations.{one-minus-j-within, primary-is, secondary-is}
-use Rattle.read_sync.specs.SyncReading.{candidate, score, sent, share}
-use Rattle.read_sync.specs.Held.{product, share-of, shares-of}
+use Rattle.read_sync.specs.SyncReading.{candidate, score, candidate-codes, share}
+use Rattle.read_sync.specs.Shares.{product, share-of, shares-of}
 
 -- ---- from the products that the code holds to the scores of the definition
 module _ (re im dre dim : List ℤ)
@@ -46,7 +46,7 @@ module _ (re im dre dim : List ℤ)
       ap (λ (x : Complex). x .re)
       (ap (λ (x : Complex). x ⊗ conj (m .unit)) (product-is (m .code) (g .listed)) ∙ ⊗-swap (S chip (m .code)) (conj (P chip)) (conj (m .unit)))
 
-  pub scores-are : (case n : ℕ) → shares-of (value dre dim) (sent case (candidate case n)) ≡ score case chip n
+  pub scores-are : (case n : ℕ) → shares-of (value dre dim) (candidate-codes case (candidate case n)) ≡ score case chip n
   unfolding score
   scores-are case n =
       let c = candidate case n in

@@ -14,7 +14,7 @@ use Rattle.complex.proofs.Order.{ltZ-true, ltZ-false, leZ-true, le-leZ, lt-ltZ}
 use Rattle.complex.proofs.Sizes.{within-add, within-more, within-mul}
 use Rattle.codes.specs.Signs.{minus-if}
 use Rattle.codes.proofs.Rows.{minus-if-within}
-use Rattle.read_sync.specs.Held.{leader-of-signs, leader-with, Leads, Led}
+use Rattle.read_sync.specs.Leaders.{leader-of-signs, leader-with, Leads, Led}
 use Rattle.read_sync.specs.declared.sync_reading.Leader.{Leader}
 
 -- ---- sums of two scores

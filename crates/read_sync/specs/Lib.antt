@@ -1,2 +1,3 @@
 pub mod SyncReading
-pub mod Held
+pub mod Shares
+pub mod Leaders

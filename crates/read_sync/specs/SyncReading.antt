@@ -32,8 +32,8 @@ unfoldable pub candidate : ℕ → ℕ → Candidate
 candidate case n = cond (eqb case 1) (of-group (n / 2) (1 + n % 2) 0) (of-group (n / 4) (1 + n / 2 % 2) (n % 2))
 
 -- the codes that a candidate sends
-abbrev pub sent : ℕ → Candidate → Allocated
-sent case c = allocation case (c .group .0) (c .frame) (c .half)
+abbrev pub candidate-codes : ℕ → Candidate → Allocated
+candidate-codes case c = allocation case (c .group .0) (c .frame) (c .half)
 
 -- Its score is the sum over its three codes of the real part of S(i) × conj(u) × conj(P).
 unfoldable pub share : (ℕ → Complex) → ModulatedCode → ℤ
@@ -43,7 +43,7 @@ abbrev pub total-share : (ℕ → Complex) → Allocated → ℤ
 total-share chip s = share chip (s .first) +ℤ share chip (s .second) +ℤ share chip (s .marker)
 
 unfoldable pub score : ℕ → (ℕ → Complex) → ℕ → ℤ
-score case chip n = total-share chip (sent case (candidate case n))
+score case chip n = total-share chip (candidate-codes case (candidate case n))
 
 -- The one that beats every other is the answer; where none does, this is the number of candidates.
 abbrev pub winner : ℕ → (ℕ → Complex) → ℕ
@@ -65,6 +65,6 @@ abbrev pub read-sync-call : ℕ → List ℤ → List ℤ → Answer Candidate
 read-sync-call case re im = sync-refusals case re im otherwise candidate case (winner case (value re im))
 
 -- ---- document 01's number and values for each case of the answer
-abbrev pub told-sync : SyncAnswer → Answer Candidate
-told-sync (Burst c) = gives c
-told-sync (Refused n) = refused n
+abbrev pub answer-of-sync : SyncAnswer → Answer Candidate
+answer-of-sync (Burst c) = gives c
+answer-of-sync (Refused n) = refused n

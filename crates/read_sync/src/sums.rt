@@ -1,13 +1,13 @@
-// Sums of sixteen with signs: every correlation with a sync code is made of them.
+// Sums with signs: of eight chips, half a part, and of the sixteen parts. The correlations with the sync codes are made of them.
 ghost use mathlib.Core.Path.{_≡_};
-ghost use Prim.Native.Nat.{_+_, _*_, _<_, _≤_};
+ghost use Prim.Native.Nat.{_+_, _<_, _≤_};
 ghost use lib.IntN.{_+ℤ_, _-ℤ_, _*ℤ_};
 ghost use lib.ListN.{length};
 ghost use mir.Syntax.{w32};
 ghost use mir.Val.{SFits};
 ghost use Rattle.complex.specs.Fits.{Within, Bound};
-ghost use Rattle.analyser_parts.specs.Held.{signed-sum};
-ghost use Rattle.read_sync.specs.Held.{half-sum};
+ghost use Rattle.analyser_parts.specs.PartSums.{signed-sum};
+ghost use Rattle.read_sync.specs.Shares.{half-sum};
 use codes::signs::sign_at;
 
 // s + sign x.

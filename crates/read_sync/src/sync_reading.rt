@@ -9,13 +9,14 @@ ghost use mir.Val.{SFits};
 ghost use Rattle.complex.specs.Arithmetic.{_+j_, _⊗_, conj};
 ghost use Rattle.complex.specs.Buffers.{listed, value};
 ghost use Rattle.complex.specs.Fits.{Within, Both, Bound};
-ghost use Rattle.codes.specs.Refusals.{number};
-ghost use Rattle.codes.specs.Held.{packed};
+ghost use Rattle.codes.specs.Refusals.{refusal-number};
+ghost use Rattle.codes.specs.PackedSigns.{packed};
 ghost use Rattle.codes.specs.SyncCodes.{a, b};
-ghost use Rattle.codes.specs.Allocation.{one-or-two, row};
-ghost use Rattle.analyser_parts.specs.Held.{correlated, part-sums};
-ghost use Rattle.read_sync.specs.SyncReading.{candidate as candidate-of, candidates, score as score-of, sent, sync-refusals};
-ghost use Rattle.read_sync.specs.Held.{leader-in-row, leader-of-row, leader-of-signs, leader-or-later, leader-with, Leads, Led, place-in-row, product as product-of, shares-of, SmallSet};
+ghost use Rattle.codes.specs.Allocation.{allocation-row, one-or-two};
+ghost use Rattle.analyser_parts.specs.PartSums.{correlated, part-sums};
+ghost use Rattle.read_sync.specs.SyncReading.{candidate as candidate-of, candidate-codes, candidates, score as score-of, sync-refusals};
+ghost use Rattle.read_sync.specs.Shares.{product as product-of, shares-of};
+ghost use Rattle.read_sync.specs.Leaders.{leader-in-row, leader-of-row, leader-of-signs, leader-or-later, leader-with, Leads, Led, place-in-row, SmallSet};
 use crate::Candidate;
 use crate::sums::half_sum;
 use crate::sums::less;
@@ -34,7 +35,7 @@ use complex::Complex;
 
 // The number of read sync's refusal by the first four tests, before the chips are compared with the codes, or 0.
 pub fn refusal(case: u32, re: &[i32], im: &[i32]) -> u32
-    ensures { λ r. ⌜ r ≡ number (take 4 (sync-refusals case (now (re .entry)) (now (im .entry)))) ⌝ }
+    ensures { λ r. ⌜ r ≡ refusal-number (take 4 (sync-refusals case (now (re .entry)) (now (im .entry)))) ⌝ }
 {
     if !burst::one_or_two(case) {
         return 14;
@@ -118,7 +119,7 @@ fn product(re: &[i32; 16], im: &[i32; 16], p: Complex, i: u32) -> WideComplex
     times_conjugate(correlation(re, im, sync::secondary_row(i)), p)
 }
 
-// The products of all numbers below sixteen, component by component.
+// `product` for each number below sixteen, component by component.
 pub struct SecondaryProducts {
     pub re: [i64; 16],
     pub im: [i64; 16],
@@ -257,7 +258,7 @@ fn row_leader(case: u32, first: Leader, second: Leader, marker: Leader) -> Leade
 // The same from the products, for row n of a code set: a share is the imaginary part of its product where the row's unit is j, else the real one.
 fn leader_in_row(re: &[i64; 16], im: &[i64; 16], case: u32, set: CodeSet, n: u32) -> Leader
     requires { ⌜ (n < 4) × SmallSet set × Bound 5300000000000000 (now re) × Bound 5300000000000000 (now im) ⌝ }
-    ensures { λ r. ⌜ r ≡ leader-in-row case (value (now (re .entry)) (now (im .entry))) (row n set) ⌝ }
+    ensures { λ r. ⌜ r ≡ leader-in-row case (value (now (re .entry)) (now (im .entry))) (allocation-row n set) ⌝ }
 {
     let r = burst::row_of(n, set);
     let marker = sign_leader(re, r.marker);
@@ -280,7 +281,7 @@ fn leader_in_row(re: &[i64; 16], im: &[i64; 16], case: u32, set: CodeSet, n: u32
 // The leader of a code set, candidates 32n to 32n + 31: eight for each of the four rows.
 fn set_leader(re: &[i64; 16], im: &[i64; 16], case: u32, n: u32) -> Leader
     requires { ⌜ (case < 3) × (n < 2 * case) × Bound 5300000000000000 (now re) × Bound 5300000000000000 (now im) ⌝ }
-    ensures { λ l. ⌜ Leads (λ k. shares-of (value (now (re .entry)) (now (im .entry))) (sent case (candidate-of case (32 * n + k)))) 32 l ⌝ }
+    ensures { λ l. ⌜ Leads (λ k. shares-of (value (now (re .entry)) (now (im .entry))) (candidate-codes case (candidate-of case (32 * n + k)))) 32 l ⌝ }
 {
     let set = burst::code_set(1 + n);
     let one = leader_in_row(re, im, case, set, 0);
@@ -292,7 +293,7 @@ fn set_leader(re: &[i64; 16], im: &[i64; 16], case: u32, n: u32) -> Leader
 // The leader of all candidates, set by set: two sets in case 1, four in case 2.
 fn lead_of_all(re: &[i64; 16], im: &[i64; 16], case: u32) -> Leader
     requires { ⌜ (one-or-two case ≡ true) × Bound 5300000000000000 (now re) × Bound 5300000000000000 (now im) ⌝ }
-    ensures { λ r. ⌜ Leads (λ n. shares-of (value (now (re .entry)) (now (im .entry))) (sent case (candidate-of case n))) (candidates case) r ⌝ }
+    ensures { λ r. ⌜ Leads (λ n. shares-of (value (now (re .entry)) (now (im .entry))) (candidate-codes case (candidate-of case n))) (candidates case) r ⌝ }
 {
     let mut leader = set_leader(re, im, case, 0);
     for n in 1..2 * case {

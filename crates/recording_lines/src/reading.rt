@@ -1,7 +1,6 @@
 // Readings of a part of the recording, and their hard bits.
 use crate::Chips;
 use crate::Done;
-use crate::READINGS;
 use crate::Readings;
 use crate::State;
 use crate::answered;
@@ -24,8 +23,8 @@ pub fn read(
     x: [u32; 5],
     out: &mut Answers,
     n: usize,
-    re: &mut Chips,
-    im: &mut Chips,
+    re: &Chips,
+    im: &Chips,
     yre: &mut Readings,
     yim: &mut Readings,
 ) -> Done {
@@ -108,13 +107,7 @@ fn digits(out: &mut Answers, n: usize, bytes: &[u8], count: usize) -> usize {
     answers::byte(out, m, b'\n')
 }
 
-pub fn harden(
-    s: State,
-    out: &mut Answers,
-    n: usize,
-    yre: &mut Readings,
-    yim: &mut Readings,
-) -> Done {
+pub fn harden(s: State, out: &mut Answers, n: usize, yre: &Readings, yim: &Readings) -> Done {
     if s.readings == 0 {
         return no_call(s, n, Fault::NoReadings);
     }

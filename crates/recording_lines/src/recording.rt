@@ -62,7 +62,7 @@ fn value(out: &mut Answers, n: usize, re: i32, im: i32) -> usize {
     answers::component(out, m, im)
 }
 
-pub fn ok(out: &mut Answers, n: usize) -> usize {
+fn ok(out: &mut Answers, n: usize) -> usize {
     answers::text(out, n, b"ok\n")
 }
 
@@ -72,8 +72,8 @@ pub fn show(
     count: u32,
     out: &mut Answers,
     n: usize,
-    re: &mut Chips,
-    im: &mut Chips,
+    re: &Chips,
+    im: &Chips,
 ) -> Done {
     let fault = outside(s.chips, from, count);
     match fault {

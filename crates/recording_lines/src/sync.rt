@@ -33,8 +33,8 @@ pub fn read_sync(
     count: u32,
     out: &mut Answers,
     n: usize,
-    re: &mut Chips,
-    im: &mut Chips,
+    re: &Chips,
+    im: &Chips,
 ) -> Done {
     let fault = outside(s.chips, from, count);
     match fault {
@@ -68,8 +68,8 @@ pub fn find(
     count: u32,
     out: &mut Answers,
     n: usize,
-    re: &mut Chips,
-    im: &mut Chips,
+    re: &Chips,
+    im: &Chips,
 ) -> Done {
     let fault = outside(s.chips, from, count);
     match fault {

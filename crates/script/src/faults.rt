@@ -25,7 +25,8 @@ pub enum Fault {
 // How many chips a recording holds.
 pub const CHIPS: usize = 38400;
 
-// What is told of a line: the fault, the line and its number, the form of its call, and how many chips the recording has.
+// Writes what is wrong with a line, number `at` of its script, and what would be right: by its fault, the form of its call, and how many chips the
+// recording has.
 pub fn tell(
     out: &mut Answers,
     n: usize,
@@ -74,11 +75,9 @@ fn wrong(out: &mut Answers, n: usize, fault: Fault, line: &[u8], chips: usize) -
 
 fn right(out: &mut Answers, n: usize, fault: Fault, form: &[u8], chips: usize) -> usize {
     match fault {
-        Fault::Unknown(w) => answers::text(out, n, b"one of those that help lists"),
-        Fault::Outside(from, count) => {
-            answers::counted(out, n, b"FROM + COUNT at most ", chips as u64)
-        }
-        Fault::Full(count) => {
+        Fault::Unknown(_) => answers::text(out, n, b"one of those that help lists"),
+        Fault::Outside(_, _) => { answers::counted(out, n, b"FROM + COUNT at most ", chips as u64) }
+        Fault::Full(_) => {
             let left = std::num::wrapping_sub_usize(CHIPS, chips);
             let m = answers::counted(out, n, b"at most ", left as u64);
             answers::text(out, m, b", or erase first")

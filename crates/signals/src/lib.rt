@@ -163,7 +163,7 @@ fn add_chip(s: &mut Chips, at: u32, z: Words) {
     }
 }
 
-// The burst's gains are 5 and 3, and it is added 40 times as strong.
+// Noise of n chips, and one burst of a group added at two starts. Its gains are 5 and 3, and it is added 40 times as strong.
 pub fn recording(n: u32, limit: u32, seed: u32, group: u32, start: u32, second: u32) -> Chips {
     let mut chips = zeros();
     add_noise(&mut chips, n, limit, seed);

@@ -16,14 +16,13 @@ use Rattle.complex.proofs.Components.{both-more}
 use Rattle.codes.specs.Scrambling.{code-group}
 use Rattle.codes.specs.Burst.{burst, burst-start}
 use Rattle.codes.proofs.Tests.{neither}
-use Rattle.modulation.specs.Held.{block-of}
+use Rattle.modulation.specs.SixteenChips.{block-of}
 use Rattle.modulation.proofs.Blocks.{block-cong}
 use Rattle.modulation.proofs.BurstParts.{burst-both}
 use Rattle.slot.specs.declared.Sync.{Sync}
 use Rattle.slot.specs.Setup.{SyncSetup}
-use Rattle.slot.specs.Slot.{sync-chip}
+use Rattle.slot.specs.Slot.{falls-on, sync-chip}
 use Rattle.slot.specs.Tables.{view-sync}
-use Rattle.slot.specs.Held.{falls-on}
 use Rattle.slot.proofs.BurstPlace.{cell-start, sync-inside, sync-outside}
 
 -- ---- the settings as the struct holds them
@@ -73,7 +72,7 @@ module _ (p : ℕ) (y : SyncSetup) (x : ℕ) (m : x % 16 ≡ 0) where
 -- ---- where it falls, by the test
 -- nowhere on the sixteen chips
 pub falls-nowhere : (p : ℕ) (o : Option SyncSetup) (x : ℕ) → x % 16 ≡ 0 → falls-on p o x ≡ false → (i : ℕ) → i < 16 → sync-chip p o (x + i) ≡ 𝟎
-unfolding falls-on sync-chip
+unfolding sync-chip
 falls-nowhere p none x m e i l = refl
 falls-nowhere p (some y) x m e i l = outside p y x m (either (decLe (cell-start p) x) (decLe (cell-start p + 256) x)) i l
   where
@@ -85,7 +84,7 @@ falls-nowhere p (some y) x m e i l = outside p y x m (either (decLe (cell-start 
 -- on them
 pub falls-there : (p : ℕ) (y : Sync) (x : ℕ) → falls-on p (view-sync p y) x ≡ true
     → (view-sync p y ≡ some (viewed y)) × (p < 128) × (cell-start p ≤ x) × (x < cell-start p + 256)
-unfolding falls-on view-sync
+unfolding view-sync
 falls-there p y x e = go (eqb (y .on) 0 || leb 128 p) refl e
   where
     go : (b : Bool) → (eqb (y .on) 0 || leb 128 p) ≡ b → falls-on p (cond b none (some (viewed y))) x ≡ true

@@ -17,13 +17,13 @@ use Rattle.complex.proofs.Lists.{value-in-buffers, listed-at, listed-cong}
 use Rattle.complex.proofs.Ring.{⊕-𝟎}
 use Rattle.codes.specs.Scrambling.{scrambling}
 use Rattle.modulation.specs.declared.Block.{Block}
-use Rattle.modulation.specs.Held.{block-of, turn-at, spread-row, block-chip}
-use Rattle.modulation.proofs.Turns.{turned-chip}
+use Rattle.modulation.specs.SixteenChips.{block-of, sign-pair, summed-row, block-chip}
+use Rattle.modulation.proofs.SignPairs.{scrambled-chip}
 use Rattle.slot.specs.declared.Settings.{Settings}
 use Rattle.slot.specs.Slot.{data-chips, data-chip, sync-chip, field-chip}
 use Rattle.slot.specs.Tables.{view, view-sync}
-use Rattle.slot.specs.Held.{held-chip}
-use Rattle.slot.proofs.Viewed.{symbols-from, spread-chip, data-is}
+use Rattle.slot.specs.FieldBlocks.{chip-by-blocks}
+use Rattle.slot.proofs.Viewed.{symbols-from, summed-chip, data-is}
 
 -- ---- one component of the chips of a block f and of a burst b
 module _ (part : Complex → ℤ) (f : ℕ → Complex) where
@@ -48,22 +48,22 @@ module _ (part : Complex → ℤ) (f : ℕ → Complex) where
   part-chips s n i e h q =
       q ∙ listed-cong n _ _ (λ j l. ap (λ (w : Complex). part (f (i + j) ⊕ w)) (ap (λ (r : Block). value (r .re) (r .im) (i + j)) e ∙ value-in-buffers 16 s (i + j) (omega arith)))
 
--- ---- a chip made of the pairs from before + first on, scrambled by the cell's turns, is the field's
-module _ (s : Settings) (before start q : ℕ) {t u : List ℤ} (t-is : t ≡ listed 16 (λ i. turn-at (s .cell .0) i .re)) (u-is : u ≡ listed 16 (λ i. turn-at (s .cell .0) i .im)) where
+-- ---- a chip made of the pairs from before + first on, scrambled by the cell's sign pairs, is the field's
+module _ (s : Settings) (before start q : ℕ) {t u : List ℤ} (t-is : t ≡ listed 16 (λ i. sign-pair (s .cell .0) i .re)) (u-is : u ≡ listed 16 (λ i. sign-pair (s .cell .0) i .im)) where
   abbrev first : ℕ
   first = q - q % 16
 
   scrambled : block-chip (s .gains) (s .pairs) (before + first) t u (q % 16)
-      ≡ spread-chip (s .gains) (symbols-from s (before + first)) (q % 16) ⊗ scrambling (s .cell .0) (q % 16 + 1)
+      ≡ summed-chip (s .gains) (symbols-from s (before + first)) (q % 16) ⊗ scrambling (s .cell .0) (q % 16 + 1)
   scrambled =
-      let x = spread-row (s .gains) (s .pairs) (before + first) true in
-      let y = spread-row (s .gains) (s .pairs) (before + first) false in
+      let x = summed-row (s .gains) (s .pairs) (before + first) true in
+      let y = summed-row (s .gains) (s .pairs) (before + first) false in
       let l : q % 16 < 16 = omega arith in
       ap₂ (λ (t u : List ℤ). block-chip (s .gains) (s .pairs) (before + first) t u (q % 16)) t-is u-is
-      ∙ turned-chip (s .cell .0) x y (q % 16) l
-      ∙ ap (λ (z : Complex). z ⊗ scrambling (s .cell .0) (q % 16 + 1)) (value-in-buffers 16 (spread-chip (s .gains) (symbols-from s (before + first))) (q % 16) l)
+      ∙ scrambled-chip (s .cell .0) x y (q % 16) l
+      ∙ ap (λ (z : Complex). z ⊗ scrambling (s .cell .0) (q % 16 + 1)) (value-in-buffers 16 (summed-chip (s .gains) (symbols-from s (before + first))) (q % 16) l)
 
-  held-is : before % 16 ≡ 0 → before + q < data-chips (s .kind) → held-chip (s .gains) (s .pairs) (s .cell .0) (s .sync) t u before start q ≡ field-chip (view s) before start q
+  held-is : before % 16 ≡ 0 → before + q < data-chips (s .kind) → chip-by-blocks (s .gains) (s .pairs) (s .cell .0) (s .sync) t u before start q ≡ field-chip (view s) before start q
   unfolding view
   held-is p d =
       let e : first + q % 16 ≡ q = omega arith in
@@ -71,12 +71,12 @@ module _ (s : Settings) (before start q : ℕ) {t u : List ℤ} (t-is : t ≡ li
       (scrambled ∙ sym (data-is s before first (q % 16) p (omega arith) (omega arith) (omega arith)) ∙ ap (data-chip (view s) before) e)
 
 -- and so are a half's first a chips
-pub half-is : (s : Settings) (before start q a : ℕ) {t u : List ℤ} → t ≡ listed 16 (λ i. turn-at (s .cell .0) i .re) → u ≡ listed 16 (λ i. turn-at (s .cell .0) i .im)
+pub half-is : (s : Settings) (before start q a : ℕ) {t u : List ℤ} → t ≡ listed 16 (λ i. sign-pair (s .cell .0) i .re) → u ≡ listed 16 (λ i. sign-pair (s .cell .0) i .im)
     → before % 16 ≡ 0 → (0 < a → before + q + a ≤ data-chips (s .kind)) → (i : ℕ)
-    → cond (ltb i a) (held-chip (s .gains) (s .pairs) (s .cell .0) (s .sync) t u before start (q + i)) 𝟎 ≡ cond (ltb i a) (field-chip (view s) before start (q + i)) 𝟎
+    → cond (ltb i a) (chip-by-blocks (s .gains) (s .pairs) (s .cell .0) (s .sync) t u before start (q + i)) 𝟎 ≡ cond (ltb i a) (field-chip (view s) before start (q + i)) 𝟎
 half-is s before start q a {t} {u} t-is u-is p d i = go (decLe a i)
   where
-    go : Dec (a ≤ i) → cond (ltb i a) (held-chip (s .gains) (s .pairs) (s .cell .0) (s .sync) t u before start (q + i)) 𝟎 ≡ cond (ltb i a) (field-chip (view s) before start (q + i)) 𝟎
+    go : Dec (a ≤ i) → cond (ltb i a) (chip-by-blocks (s .gains) (s .pairs) (s .cell .0) (s .sync) t u before start (q + i)) 𝟎 ≡ cond (ltb i a) (field-chip (view s) before start (q + i)) 𝟎
     go (yes h) = rw (le-ltb i a h)
     go (no h) =
         let l = lt-of-not-le h in

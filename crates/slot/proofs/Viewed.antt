@@ -12,7 +12,7 @@ use Rattle.complex.specs.declared.Complex.{Complex}
 use Rattle.complex.specs.Arithmetic.{_+j_, real, 𝟎, _⊕_, _⊗_, Σ<}
 use Rattle.complex.specs.Buffers.{listed}
 use Rattle.complex.proofs.Lists.{listed-at}
-use Rattle.complex.proofs.Ring.{by-components, ⊗-comm, ⊗-⊕, 𝟎-⊗, real-⊗}
+use Rattle.complex.proofs.Ring.{by-components, ⊗-comm, ⊗-⊕, ⊗-𝟎, 𝟎-⊗, real-⊗}
 use Rattle.complex.proofs.Sums.{Σ-cong, ⊗-Σ, Σ-components}
 use Rattle.codes.specs.Scrambling.{scrambling}
 use Rattle.codes.specs.Tree.{is-spreading-factor, element, width}
@@ -22,7 +22,7 @@ use Rattle.modulation.specs.Symbols.{pair, symbol}
 use Rattle.slot.specs.Slot.{data-chips, bit-count, channel-chip, data-chip}
 use Rattle.modulation.specs.Nodes.{node}
 use Rattle.slot.specs.Tables.{place, held-bit, held-channel, view-channel, view}
-use Rattle.modulation.specs.Held.{level-sum, spread}
+use Rattle.modulation.specs.SixteenChips.{level-sum, summed}
 use Rattle.slot.proofs.Lengths.{lengths-of}
 use Rattle.slot.proofs.Places.{code-place, pair-below, pair-place, pair-inside}
 
@@ -31,8 +31,8 @@ abbrev pub symbols-from : Settings → ℕ → ℕ → Complex
 symbols-from s from i = symbol (getD (s .pairs) (from + i) 0)
 
 -- chip c of sixteen before scrambling, from sixteen symbols
-abbrev pub spread-chip : List ℕ → (ℕ → Complex) → ℕ → Complex
-spread-chip gains y c = spread gains (listed 16 (λ i. y i .re)) c +j spread gains (listed 16 (λ i. y i .im)) c
+abbrev pub summed-chip : List ℕ → (ℕ → Complex) → ℕ → Complex
+summed-chip gains y c = summed gains (listed 16 (λ i. y i .re)) c +j summed gains (listed 16 (λ i. y i .im)) c
 
 -- the two bits of an entry are its pair
 pair-held : (pairs : List ℕ) (Q k m n : ℕ) → 2 * n + 1 < m → pair (listed m (held-bit pairs Q k)) n ≡ getD pairs (place Q k n) 0
@@ -65,8 +65,8 @@ by-component g e x y =
     ∙ by-components (*ℤ-comm e (g *ℤ x .re)) (*ℤ-comm e (g *ℤ x .im)))
 
 -- the factor of five terms
-common : (x a b c d e : Complex) → x ⊗ a ⊕ x ⊗ b ⊕ x ⊗ c ⊕ x ⊗ d ⊕ x ⊗ e ≡ x ⊗ (a ⊕ b ⊕ c ⊕ d ⊕ e)
-common x a b c d e = sym (simp ⊗-⊕)
+common : (x a b c d e : Complex) → 𝟎 ⊕ x ⊗ a ⊕ x ⊗ b ⊕ x ⊗ c ⊕ x ⊗ d ⊕ x ⊗ e ≡ x ⊗ (𝟎 ⊕ a ⊕ b ⊕ c ⊕ d ⊕ e)
+common x a b c d e = sym (simp (⊗-⊕, ⊗-𝟎))
 
 module _ (s : Settings) (before first c : ℕ) (b : before % 16 ≡ 0) (f : first % 16 ≡ 0) (l : c < 16) (d : before + first + c < data-chips (s .kind)) where
   abbrev y : ℕ → Complex
@@ -111,9 +111,9 @@ module _ (s : Settings) (before first c : ℕ) (b : before % 16 ≡ 0) (f : firs
   unfolding level-sum
   level-chip Q t e = Σ-cong Q _ _ (λ k h. code-chip Q k t e h) ∙ sym (⊗-Σ Q _ w) ∙ ap (λ (x : Complex). w ⊗ x) (Σ-components Q _ _)
 
-  pub data-is : data-chip (view s) before (first + c) ≡ spread-chip (s .gains) (symbols-from s (before + first)) c ⊗ scrambling (s .cell .0) (c + 1)
-  unfolding data-chip view spread _⊕_
+  pub data-is : data-chip (view s) before (first + c) ≡ summed-chip (s .gains) (symbols-from s (before + first)) c ⊗ scrambling (s .cell .0) (c + 1)
+  unfolding data-chip view summed 𝟎 _⊕_
   data-is =
-      (λ i. level-chip 1 refl refl i ⊕ level-chip 2 refl refl i ⊕ level-chip 4 refl refl i ⊕ level-chip 8 refl refl i ⊕ level-chip 16 refl refl i)
+      (λ i. 𝟎 ⊕ level-chip 1 refl refl i ⊕ level-chip 2 refl refl i ⊕ level-chip 4 refl refl i ⊕ level-chip 8 refl refl i ⊕ level-chip 16 refl refl i)
       ∙ common w _ _ _ _ _
       ∙ ⊗-comm w _

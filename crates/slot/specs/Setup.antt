@@ -5,7 +5,7 @@ use mathlib.Core.Bool.{Bool, true, false}
 use mathlib.Core.Option.{Option, none, some}
 
 -- an open code's gain and bits
-pub record Channel : Type 0 where
+pub record ChannelSetup : Type 0 where
   pub gain : ℕ
   pub bits : List ℕ
 
@@ -21,7 +21,7 @@ pub record SyncSetup : Type 0 where
 pub record Setup : Type 0 where
   pub cell : ℕ
   pub type : ℕ
-  pub channel : ℕ → ℕ → Option Channel
+  pub channel : ℕ → ℕ → Option ChannelSetup
   pub sync : Option SyncSetup
 
 abbrev pub is-some : {A : Type 0} → Option A → Bool

@@ -2,18 +2,18 @@
 use lib.IntN.{pos}
 use Prim.Native.Nat.{ℕ, _+_, _*_, _-_, _/_, _%_}
 use mathlib.Core.List.{[], _∷_}
-use mathlib.Core.Bool.{_&&_, cond}
+use mathlib.Core.Bool.{Bool, false, _&&_, cond}
 use mathlib.Core.Option.{Option, none, some}
 use lib.Dec.{ltb, leb}
 use lib.ListN.{getD}
 use Rattle.complex.specs.declared.Complex.{Complex}
 use Rattle.complex.specs.Arithmetic.{real, 𝟎, _⊕_, _⊗_, Σ<}
-use Rattle.codes.specs.Tree.{element}
+use Rattle.codes.specs.Tree.{over-factors, element}
 use Rattle.codes.specs.Scrambling.{scrambling, code-group}
 use Rattle.codes.specs.Burst.{burst, burst-start}
 use Rattle.modulation.specs.Symbols.{pair, symbol}
 use Rattle.slot.specs.declared.parts.Parts.{Parts}
-use Rattle.slot.specs.Setup.{Channel, SyncSetup, Setup}
+use Rattle.slot.specs.Setup.{ChannelSetup, SyncSetup, Setup}
 
 -- A slot has 2,560 chips: field 1, midamble, field 2, guard.
 abbrev pub slot-length : ℕ
@@ -41,26 +41,30 @@ bit-count t Q = 2 * data-chips t / Q
 
 -- Chip q of a field (from 0) is, for one channel, gain × symbol (q div Q) × code element (q mod Q) × complex scrambling element 1 + (q mod 16).
 -- The index restarts in each field; field 1's bits come first, then field 2's: `before` is the number of chips of the fields before this one.
-unfoldable pub channel-chip : ℕ → ℕ → ℕ → ℕ → ℕ → Option Channel → Complex
+unfoldable pub channel-chip : ℕ → ℕ → ℕ → ℕ → ℕ → Option ChannelSetup → Complex
 channel-chip p before q Q k none = 𝟎
 channel-chip p before q Q k (some c) =
     real (pos (c .gain)) ⊗ symbol (pair (c .bits) (before / Q + q / Q)) ⊗ real (element Q k (q % Q)) ⊗ scrambling p (1 + q % 16)
 
 -- the sum over all codes
 abbrev pub over-codes : (ℕ → ℕ → Complex) → Complex
-over-codes f = Σ< 1 (f 1) ⊕ Σ< 2 (f 2) ⊕ Σ< 4 (f 4) ⊕ Σ< 8 (f 8) ⊕ Σ< 16 (f 16)
+over-codes f = over-factors _⊕_ 𝟎 (λ Q. Σ< Q (f Q))
 
 -- the sum over open channels
 unfoldable pub data-chip : Setup → ℕ → ℕ → Complex
 data-chip s before q = over-codes (λ Q k. channel-chip (s .cell) before q Q k (s .channel Q k))
 
--- the sync burst where it falls: 256 chips, unscrambled, from the start of the cell's group on; x is the chip's number in the slot
+-- the sync burst falls on chip x of the slot: 256 chips, from the start of the cell's group on
+abbrev pub falls-on : ℕ → Option SyncSetup → ℕ → Bool
+falls-on p none x = false
+falls-on p (some y) x = let start = burst-start (code-group p) in leb start x && ltb x (start + 256)
+
+-- what the sync burst, unscrambled, adds to chip x of the slot
 unfoldable pub sync-chip : ℕ → Option SyncSetup → ℕ → Complex
 sync-chip p none x = 𝟎
 sync-chip p (some y) x =
     let g = code-group p in
-    let start = burst-start g in
-    cond (leb start x && ltb x (start + 256)) (burst (y .case) g (y .frame) (y .half) (y .gP) (y .gS) (x - start)) 𝟎
+    cond (falls-on p (some y) x) (burst (y .case) g (y .frame) (y .half) (y .gP) (y .gS) (x - burst-start g)) 𝟎
 
 -- The slot's chip is the sum over open channels, plus the sync burst where it falls: chip q of a field that starts at the slot's chip `start`
 abbrev pub field-chip : Setup → ℕ → ℕ → ℕ → Complex

@@ -2,10 +2,9 @@
 ghost use mathlib.Core.Path.{_≡_};
 ghost use Prim.Native.Nat.{_+_, _%_};
 ghost use Rattle.complex.specs.Fits.{Bound};
-ghost use Rattle.modulation.specs.Held.{block-of};
-ghost use Rattle.slot.specs.Slot.{sync-chip};
+ghost use Rattle.modulation.specs.SixteenChips.{block-of};
+ghost use Rattle.slot.specs.Slot.{falls-on, sync-chip};
 ghost use Rattle.slot.specs.Tables.{view-sync};
-ghost use Rattle.slot.specs.Held.{falls-on};
 use crate::Sync;
 use codes::CellParameter;
 use codes::burst;

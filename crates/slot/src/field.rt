@@ -8,10 +8,10 @@ ghost use lib.ListN.{getD, length};
 ghost use Rattle.complex.specs.Arithmetic.{𝟎, _⊕_};
 ghost use Rattle.complex.specs.Buffers.{listed, value};
 ghost use Rattle.complex.specs.Fits.{Bound};
-ghost use Rattle.modulation.specs.Held.{block-chip, levels-of};
+ghost use Rattle.modulation.specs.SixteenChips.{block-chip, levels-of};
 ghost use Rattle.slot.specs.Slot.{chip, sync-chip};
 ghost use Rattle.slot.specs.Tables.{settings-of, view, view-sync};
-ghost use Rattle.slot.specs.Held.{held-chip};
+ghost use Rattle.slot.specs.FieldBlocks.{chip-by-blocks};
 use crate::Sync;
 use crate::burst;
 use crate::parts;
@@ -115,7 +115,7 @@ fn write_block<'a>(
     ensures real { λ r. ⌜ now (re .exit) ≡ listed (length (now (re .entry))) (λ j. (block-chip (now (gains .entry)) (now (pairs .entry)) from (now (tre .entry)) (now (tim .entry)) (i + j) ⊕ sync-chip (cell .0) (view-sync (cell .0) sync) (x + (i + j))) .re) ⌝ }
     ensures imaginary { λ r. ⌜ now (im .exit) ≡ listed (length (now (im .entry))) (λ j. (block-chip (now (gains .entry)) (now (pairs .entry)) from (now (tre .entry)) (now (tim .entry)) (i + j) ⊕ sync-chip (cell .0) (view-sync (cell .0) sync) (x + (i + j))) .im) ⌝ }
 {
-    if re.len() == 16 && im.len() == 16 && !burst::falls(cell, sync, x) {
+    if re.len() == 16 && !burst::falls(cell, sync, x) {
         write_whole(gains, levels, pairs, from, tre, tim, re, im);
     } else {
         let b = burst::at(cell, sync, x);
@@ -140,8 +140,8 @@ fn write_field<'a>(
     im: &mut [i32],
 )
     requires { ⌜ (levels ≡ levels-of (now gains)) × Bound 1 (now tre) × Bound 1 (now tim) × (length (now im) ≡ length (now re)) × (before % 16 ≡ 0) × (start % 16 ≡ 0) × (start ≤ 2560) × (0 < length (now re) → before + q + length (now re) ≤ 2208) ⌝ }
-    ensures real { λ r. ⌜ now (re .exit) ≡ listed (length (now (re .entry))) (λ i. held-chip (now (gains .entry)) (now (pairs .entry)) (cell .0) sync (now (tre .entry)) (now (tim .entry)) before start (q + i) .re) ⌝ }
-    ensures imaginary { λ r. ⌜ now (im .exit) ≡ listed (length (now (im .entry))) (λ i. held-chip (now (gains .entry)) (now (pairs .entry)) (cell .0) sync (now (tre .entry)) (now (tim .entry)) before start (q + i) .im) ⌝ }
+    ensures real { λ r. ⌜ now (re .exit) ≡ listed (length (now (re .entry))) (λ i. chip-by-blocks (now (gains .entry)) (now (pairs .entry)) (cell .0) sync (now (tre .entry)) (now (tim .entry)) before start (q + i) .re) ⌝ }
+    ensures imaginary { λ r. ⌜ now (im .exit) ≡ listed (length (now (im .entry))) (λ i. chip-by-blocks (now (gains .entry)) (now (pairs .entry)) (cell .0) sync (now (tre .entry)) (now (tim .entry)) before start (q + i) .im) ⌝ }
 {
     let n = re.len();
     let mut done: usize = 0;
@@ -194,8 +194,8 @@ fn write_half<'a>(
     im: &mut [i32],
 )
     requires { ⌜ (levels ≡ levels-of (now gains)) × Bound 1 (now tre) × Bound 1 (now tim) × (length (now im) ≡ length (now re)) × (count ≤ length (now re)) × (before % 16 ≡ 0) × (start % 16 ≡ 0) × (start ≤ 2560) × (0 < count → before + q + count ≤ 2208) ⌝ }
-    ensures real { λ r. ⌜ now (re .exit) ≡ listed (length (now (re .entry))) (λ i. cond (ltb i count) (held-chip (now (gains .entry)) (now (pairs .entry)) (cell .0) sync (now (tre .entry)) (now (tim .entry)) before start (q + i)) 𝟎 .re) ⌝ }
-    ensures imaginary { λ r. ⌜ now (im .exit) ≡ listed (length (now (im .entry))) (λ i. cond (ltb i count) (held-chip (now (gains .entry)) (now (pairs .entry)) (cell .0) sync (now (tre .entry)) (now (tim .entry)) before start (q + i)) 𝟎 .im) ⌝ }
+    ensures real { λ r. ⌜ now (re .exit) ≡ listed (length (now (re .entry))) (λ i. cond (ltb i count) (chip-by-blocks (now (gains .entry)) (now (pairs .entry)) (cell .0) sync (now (tre .entry)) (now (tim .entry)) before start (q + i)) 𝟎 .re) ⌝ }
+    ensures imaginary { λ r. ⌜ now (im .exit) ≡ listed (length (now (im .entry))) (λ i. cond (ltb i count) (chip-by-blocks (now (gains .entry)) (now (pairs .entry)) (cell .0) sync (now (tre .entry)) (now (tim .entry)) before start (q + i)) 𝟎 .im) ⌝ }
 {
     write_field(
         gains,
@@ -238,7 +238,7 @@ pub fn write<'a>(
     ensures real { λ r. ⌜ now (re .exit) ≡ listed (length (now (re .entry))) (λ i. chip (view (settings-of cell kind (now (gains .entry)) (now (pairs .entry)) sync)) (from + i) .re) ⌝ }
     ensures imaginary { λ r. ⌜ now (im .exit) ≡ listed (length (now (im .entry))) (λ i. chip (view (settings-of cell kind (now (gains .entry)) (now (pairs .entry)) sync)) (from + i) .im) ⌝ }
 {
-    let t = data::turns(cell);
+    let t = data::sign_pairs(cell);
     let tre = t.re;
     let tim = t.im;
     let levels = data::open_levels(gains);

@@ -18,8 +18,9 @@ use Rattle.codes.proofs.Leaves.{each-code, at-code}
 use Rattle.codes.proofs.Tests.{agree, agree→eq, each-at, none-at, T-true}
 use Rattle.modulation.specs.Symbols.{pair}
 use Rattle.modulation.specs.Nodes.{node}
-use Rattle.tables.specs.Bits.{owns, pair-number, pairs-with}
-use Rattle.tables.specs.Held.{cleared, is-leaf-open, open-at, some-over, with-open-cleared}
+use Rattle.tables.specs.Bits.{is-entry-of, pair-of-entry, pairs-with-bits}
+use Rattle.tables.specs.OpenCodes.{is-leaf-open, open-at, some-over}
+use Rattle.tables.specs.PairChanges.{cleared, with-open-cleared}
 use Rattle.tables.proofs.Blocks.{Code}
 
 -- ---- the leaves below open codes
@@ -28,7 +29,7 @@ unfoldable has-leaf : ℕ → ℕ → Bool
 has-leaf n = some-over (λ Q k. eqb (node Q k) n)
 
 unfoldable leaves-test : ℕ → ℕ → Bool
-leaves-test Q k = each 16 (λ l. agree (has-leaf (node Q k) l) (owns Q k l))
+leaves-test Q k = each 16 (λ l. agree (has-leaf (node Q k) l) (is-entry-of Q k l))
 
 every-leaf : T (each-code leaves-test)
 unfolding each-code leaves-test each agree has-leaf
@@ -36,7 +37,7 @@ every-leaf = tt
 
 -- each code has a leaf
 unfoldable some-leaf : ℕ → ℕ → Bool
-some-leaf Q k = any 16 (owns Q k)
+some-leaf Q k = any 16 (is-entry-of Q k)
 
 every-code : T (each-code some-leaf)
 unfolding each-code some-leaf each any
@@ -50,17 +51,17 @@ pairwise false false c d = refl
 
 over-either : (f g : ℕ → ℕ → Bool) (l : ℕ) → some-over (λ Q k. f Q k || g Q k) l ≡ (some-over f l || some-over g l)
 over-either f g l =
-    let a = f 1 0 in
+    let a = f 1 (l / 16) in
     let b = f 2 (l / 8) in
     let c = f 4 (l / 4) in
     let d = f 8 (l / 2) in
-    let a′ = g 1 0 in
+    let a′ = g 1 (l / 16) in
     let b′ = g 2 (l / 8) in
     let c′ = g 4 (l / 4) in
     let d′ = g 8 (l / 2) in
-    let last = f 16 l || g 16 l in
+    let last = f 16 (l / 1) || g 16 (l / 1) in
     ap (λ (t : Bool). t || (c || c′) || (d || d′) || last) (pairwise a a′ b b′) ∙ ap (λ (t : Bool). t || (d || d′) || last) (pairwise (a || b) (a′ || b′) c c′)
-    ∙ ap (λ (t : Bool). t || last) (pairwise (a || b || c) (a′ || b′ || c′) d d′) ∙ pairwise (a || b || c || d) (a′ || b′ || c′ || d′) (f 16 l) (g 16 l)
+    ∙ ap (λ (t : Bool). t || last) (pairwise (a || b || c) (a′ || b′ || c′) d d′) ∙ pairwise (a || b || c || d) (a′ || b′ || c′ || d′) (f 16 (l / 1)) (g 16 (l / 1))
 
 any-either : (n : ℕ) (f g : ℕ → Bool) → any n (λ i. f i || g i) ≡ (any n f || any n g)
 unfolding any
@@ -127,7 +128,7 @@ module _ (g : List ℕ) (Q k x : ℕ) (c : Code Q k) (d : x ≢ 0) (len : length
   factor : T (is-spreading-factor Q)
   factor = subst T (sym (c .factor)) tt
 
-  leaf-opened : (l : ℕ) → l < 16 → is-leaf-open next l ≡ (owns Q k l || is-leaf-open g l)
+  leaf-opened : (l : ℕ) → l < 16 → is-leaf-open next l ≡ (is-entry-of Q k l || is-leaf-open g l)
   unfolding leaves-test
   leaf-opened l m =
       leaf-set g (node Q k) x inside d l
@@ -136,16 +137,16 @@ module _ (g : List ℕ) (Q k x : ℕ) (c : Code Q k) (d : x ≢ 0) (len : length
   some-opened : any 16 (is-leaf-open next) ≡ true
   unfolding some-leaf
   some-opened =
-      any-cong 16 (is-leaf-open next) (λ l. owns Q k l || is-leaf-open g l) leaf-opened ∙ any-either 16 (owns Q k) (is-leaf-open g)
-      ∙ ap (λ (t : Bool). t || any 16 (is-leaf-open g)) (T-true (any 16 (owns Q k)) (at-code some-leaf every-code Q k factor (c .below)))
+      any-cong 16 (is-leaf-open next) (λ l. is-entry-of Q k l || is-leaf-open g l) leaf-opened ∙ any-either 16 (is-entry-of Q k) (is-leaf-open g)
+      ∙ ap (λ (t : Bool). t || any 16 (is-leaf-open g)) (T-true (any 16 (is-entry-of Q k)) (at-code some-leaf every-code Q k factor (c .below)))
 
   some-cleared : (p : List ℕ) → listed 2208 (λ i. cond (getD (listed 16 (is-leaf-open next)) (i % 16) false) 0 (getD p i 0)) ≡ with-open-cleared next p
   unfolding with-open-cleared cleared
   some-cleared p = rw some-opened
 
   -- its pairs are cleared like those of the codes that were open
-  pub one-more-open : (p : List ℕ) → pairs-with (with-open-cleared g p) Q k [] ≡ with-open-cleared next p
-  unfolding pairs-with
+  pub one-more-open : (p : List ℕ) → pairs-with-bits (with-open-cleared g p) Q k [] ≡ with-open-cleared next p
+  unfolding pairs-with-bits
   one-more-open p = listed-cong 2208 _ _ entry ∙ some-cleared p
     where
       both : (s t : Bool) (y : ℕ) → cond s 0 (cond t 0 y) ≡ cond (s || t) 0 y
@@ -153,14 +154,14 @@ module _ (g : List ℕ) (Q k x : ℕ) (c : Code Q k) (d : x ≢ 0) (len : length
       both false t y = refl
 
       entry : (i : ℕ) → i < 2208
-          → cond (owns Q k i) (pair [] (pair-number Q i)) (getD (with-open-cleared g p) i 0) ≡ cond (getD (listed 16 (is-leaf-open next)) (i % 16) false) 0 (getD p i 0)
+          → cond (is-entry-of Q k i) (pair [] (pair-of-entry Q i)) (getD (with-open-cleared g p) i 0) ≡ cond (getD (listed 16 (is-leaf-open next)) (i % 16) false) 0 (getD p i 0)
       entry i l =
           let e : i % 16 % 16 ≡ i % 16 = omega arith in
-          let o : is-leaf-open next (i % 16) ≡ (owns Q k i || is-leaf-open g (i % 16)) = rw e at (leaf-opened (i % 16) (omega arith)) in
-          ap (cond (owns Q k i) 0) (one-entry g p i l) ∙ both (owns Q k i) (is-leaf-open g (i % 16)) (getD p i 0)
+          let o : is-leaf-open next (i % 16) ≡ (is-entry-of Q k i || is-leaf-open g (i % 16)) = rw e at (leaf-opened (i % 16) (omega arith)) in
+          ap (cond (is-entry-of Q k i) 0) (one-entry g p i l) ∙ both (is-entry-of Q k i) (is-leaf-open g (i % 16)) (getD p i 0)
           ∙ ap (λ (t : Bool). cond t 0 (getD p i 0)) (sym (listed-at (is-leaf-open next) false 16 (i % 16) (omega arith) ∙ o))
 
 -- where it is the first, its pairs alone are
-pub first-open : (Q k : ℕ) → Code Q k → (p : List ℕ) → pairs-with p Q k [] ≡ with-open-cleared (set (replicate 31 0) (node Q k) 1) p
+pub first-open : (Q k : ℕ) → Code Q k → (p : List ℕ) → pairs-with-bits p Q k [] ≡ with-open-cleared (set (replicate 31 0) (node Q k) 1) p
 unfolding with-open-cleared any is-leaf-open
 first-open Q k c p = one-more-open (replicate 31 0) Q k 1 c (λ e. omega arith) refl p

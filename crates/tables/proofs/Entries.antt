@@ -13,7 +13,7 @@ use lib.ListN.{length, getD, set}
 use lib.Seq.{ext-getD, getD-set-same, getD-set-other}
 use Rattle.complex.specs.Buffers.{listed}
 use Rattle.complex.proofs.Lists.{length-listed, listed-at}
-use Rattle.tables.specs.Held.{with-part}
+use Rattle.tables.specs.PairChanges.{with-part}
 
 -- entry i of the new pairs is r i of the old entry
 pub record Became (r : ℕ → ℕ → ℕ) (old new : List ℕ) : Type 0 where

@@ -1,2 +1,3 @@
 pub mod Bits
-pub mod Held
+pub mod OpenCodes
+pub mod PairChanges

@@ -5,7 +5,7 @@ ghost use Prim.Native.Nat.{_<_, _≤_};
 ghost use lib.ListN.{set};
 ghost use Rattle.codes.specs.Range.{any};
 ghost use Rattle.modulation.specs.Nodes.{node as node-of};
-ghost use Rattle.tables.specs.Held.{clashes, open-at};
+ghost use Rattle.tables.specs.OpenCodes.{clashes, open-at};
 use codes::tree;
 
 // Where the gain of code (q, k) stands.
@@ -33,7 +33,7 @@ pub fn with_gain(mut gains: [u16; 31], q: u32, k: u32, gain: u32) -> [u16; 31]
     gains
 }
 
-// A test that one code of each factor has.
+// Whether one of five tests passed, one a spreading factor.
 pub fn any_of_five(a: bool, b: bool, c: bool, d: bool, e: bool) -> bool
     ensures { λ r. ⌜ r ≡ (a || b || c || d || e) ⌝ }
 {

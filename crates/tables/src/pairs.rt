@@ -6,8 +6,9 @@ ghost use lib.ListN.{length};
 ghost use Rattle.complex.specs.Buffers.{listed};
 ghost use Rattle.codes.specs.Tree.{is-spreading-factor};
 ghost use Rattle.modulation.specs.Symbols.{pair as pair-of};
-ghost use Rattle.tables.specs.Bits.{has-byte-above-1, pairs-with};
-ghost use Rattle.tables.specs.Held.{cleared, is-leaf-open, with-open-cleared, with-part};
+ghost use Rattle.tables.specs.Bits.{has-byte-above-1, pairs-with-bits};
+ghost use Rattle.tables.specs.OpenCodes.{is-leaf-open};
+ghost use Rattle.tables.specs.PairChanges.{cleared, with-open-cleared, with-part};
 use crate::gains::any_of_five;
 use crate::gains::is_open;
 use codes::tree;
@@ -71,7 +72,7 @@ fn put_part(pairs: &mut [u8; 2208], at: usize, w: usize, bits: &[u8], n: usize)
 // The bits of code (q, k), 0 past their end: block by block of sixteen entries, its own 16/q of them.
 pub fn set_bits(pairs: &mut [u8; 2208], q: u32, k: u32, bits: &[u8])
     requires { ⌜ (is-spreading-factor q ≡ true) × (k < q) × (has-byte-above-1 (now bits) ≡ false) × (length (now bits) % 2 ≡ 0) ⌝ }
-    ensures { λ r. ⌜ now (pairs .exit) ≡ pairs-with (now (pairs .entry)) q k (now (bits .entry)) ⌝ }
+    ensures { λ r. ⌜ now (pairs .exit) ≡ pairs-with-bits (now (pairs .entry)) q k (now (bits .entry)) ⌝ }
 {
     let w = tree::width(q) as usize;
     let from = k as usize * w;

@@ -9,7 +9,7 @@ use Rattle.codes.proofs.Refused.{numbered, 0-accepts, ZeroAccepts}
 use Rattle.slot.specs.Tables.{view}
 use Rattle.bench.specs.declared.Bench.{Bench}
 use Rattle.bench.specs.declared.Channel.{Channel}
-use Rattle.bench.specs.BenchCalls.{AnswerAt, refused-at, loads, clear-sync-call, close-call, close-refusals, draw-call, draw-refusals, load-bits-call, load-bits-refusals, load-plan-call, open-call, open-refusals, opened-in-turn, plan-outcome, set-cell-call, set-cell-refusals, set-gain-call, set-gain-refusals, set-sync-call, set-sync-refusals, start-call, start-refusals, under-way}
+use Rattle.bench.specs.BenchCalls.{AnswerAt, refused-at, loads, clear-sync-call, close-call, close-refusals, draw-call, draw-refusals, load-bits-call, load-bits-refusals, load-plan-call, open-call, open-refusals, opened-in-order, plan-outcome, set-cell-call, set-cell-refusals, set-gain-call, set-gain-refusals, set-sync-call, set-sync-refusals, start-call, start-refusals, is-running}
 use Rattle.bench.specs.Changes.{all-closed, with-settings}
 use Rattle.read.specs.Reading.{read-call, read-refusals}
 use Rattle.harden.specs.Hardening.{harden-call, harden-refusals}
@@ -47,29 +47,29 @@ module _ (b : Bench) where
 
   pub start-0 : ZeroAccepts (start-call b)
   unfolding numbered
-  start-0 = 0-accepts _ (start-refusals (under-way b)) tt
+  start-0 = 0-accepts _ (start-refusals (is-running b)) tt
 
   pub draw-0 : (n n′ : ℕ) → ZeroAccepts (draw-call b n n′)
   unfolding numbered
-  draw-0 n n′ = 0-accepts _ (draw-refusals (under-way b) n n′) tt
+  draw-0 n n′ = 0-accepts _ (draw-refusals (is-running b) n n′) tt
 
 -- load plan's numbers are open's
 abbrev PlanZeroAccepts : AnswerAt Bench → Type 0
 PlanZeroAccepts a = plan-refusal-of a ≡ 0 → plan-outcome a ≡ loads tt
 
-opened-in-turn-0 : (place : ℕ) (b : Bench) (plan : List Channel) → PlanZeroAccepts (opened-in-turn place b plan)
-unfolding opened-in-turn
-opened-in-turn-0 place b [] = λ e. refl
-opened-in-turn-0 place b (c ∷ cs) =
-    go (open-call b (c .q) (c .k) (c .gain)) (open-0 b (c .q) (c .k) (c .gain)) (λ next. opened-in-turn-0 (suc place) next cs)
+opened-in-order-0 : (place : ℕ) (b : Bench) (plan : List Channel) → PlanZeroAccepts (opened-in-order place b plan)
+unfolding opened-in-order
+opened-in-order-0 place b [] = λ e. refl
+opened-in-order-0 place b (c ∷ cs) =
+    go (open-call b (c .q) (c .k) (c .gain)) (open-0 b (c .q) (c .k) (c .gain)) (λ next. opened-in-order-0 (suc place) next cs)
   where
-    go : (a : Answer Bench) → ZeroAccepts a → ((next : Bench) → PlanZeroAccepts (opened-in-turn (suc place) next cs))
-        → PlanZeroAccepts (elim a [ refused n ↦ refused-at n place | gives next ↦ opened-in-turn (suc place) next cs ])
+    go : (a : Answer Bench) → ZeroAccepts a → ((next : Bench) → PlanZeroAccepts (opened-in-order (suc place) next cs))
+        → PlanZeroAccepts (elim a [ refused n ↦ refused-at n place | gives next ↦ opened-in-order (suc place) next cs ])
     go (refused n) z more e = let f = z e in cc
     go (gives next) z more e = more next e
 
 pub load-plan-0 : (b : Bench) (plan : List Channel) → PlanZeroAccepts (load-plan-call b plan)
-load-plan-0 b plan = opened-in-turn-0 0 (with-settings b (all-closed (b .settings))) plan
+load-plan-0 b plan = opened-in-order-0 0 (with-settings b (all-closed (b .settings))) plan
 
 pub read-0 : (p Q k : ℕ) (re im : List ℤ) (m m′ : ℕ) → ZeroAccepts (read-call p Q k re im m m′)
 unfolding numbered

@@ -9,20 +9,20 @@ use Rattle.tdd_bench.specs.PlanResults.{place-of, plan-refusal-of}
 
 -- a call whose answer has no value
 module _ {A : Type 0} (a : Answer A) where
-  pub told-refusal : {t : Answer (Unit {0})} → t ≡ outcome a → refusal-of t ≡ refusal-of a
-  told-refusal e = ap refusal-of e ∙ refusal-of-outcome a
+  pub answer-refusal : {t : Answer (Unit {0})} → t ≡ outcome a → refusal-of t ≡ refusal-of a
+  answer-refusal e = ap refusal-of e ∙ refusal-of-outcome a
 
 -- what `call_result` made of what a call of the bench answered and left
 pub called : (a : Answer Bench) (b : Bench) {n : ℕ} {t : Answer (Unit {0})} {new left : Bench}
     → (n ≡ refusal-of t) × (new ≡ left) → (t ≡ outcome a) × (left ≡ left-by a b) → (n ≡ refusal-of a) × (new ≡ left-by a b)
-called a b c e = (c .0 ∙ told-refusal a (e .0), c .1 ∙ e .1)
+called a b c e = (c .0 ∙ answer-refusal a (e .0), c .1 ∙ e .1)
 
 -- a draw tells its count
-pub told-count : (a : Answer Draw) {t : Answer ℕ} → t ≡ counted a → (refusal-of t ≡ refusal-of a) × (after t 0 (λ m. m) ≡ after a 0 (λ d. d .count))
-told-count (refused n) e = held 0 (λ m. m) e
-told-count (gives d) e = held 0 (λ m. m) e
+pub answer-count : (a : Answer Draw) {t : Answer ℕ} → t ≡ counted a → (refusal-of t ≡ refusal-of a) × (after t 0 (λ m. m) ≡ after a 0 (λ d. d .count))
+answer-count (refused n) e = held 0 (λ m. m) e
+answer-count (gives d) e = held 0 (λ m. m) e
 
 -- load plan tells the place of its refusal
-pub told-place : (a : AnswerAt Bench) {t : AnswerAt (Unit {0})} → t ≡ plan-outcome a → (plan-refusal-of t ≡ plan-refusal-of a) × (place-of t ≡ place-of a)
-told-place (refused-at n place) e = (ap plan-refusal-of e, ap place-of e)
-told-place (loads b) e = (ap plan-refusal-of e, ap place-of e)
+pub answer-place : (a : AnswerAt Bench) {t : AnswerAt (Unit {0})} → t ≡ plan-outcome a → (plan-refusal-of t ≡ plan-refusal-of a) × (place-of t ≡ place-of a)
+answer-place (refused-at n place) e = (ap plan-refusal-of e, ap place-of e)
+answer-place (loads b) e = (ap plan-refusal-of e, ap place-of e)

@@ -1,4 +1,4 @@
-// The bench and the analyser for C and Rust hosts, as include/tdd_bench.h declares them: each function is the call that its name ends with.
+// The bench and the analyser for C and Rust hosts, as include/tdd_bench.h declares them: each export is the call that its name ends with.
 // A bench goes in by value, and the new one comes back beside the answer. `refusal` is document 01's number, or 0 where the call is accepted; place,
 // count and the values of an answer are 0 where there is none.
 ghost use mathlib.Core.Path.{_≡_};
@@ -6,7 +6,7 @@ ghost use lib.IntN.{pos};
 ghost use lib.ListN.{length, take};
 ghost use Rattle.complex.specs.Buffers.{written};
 ghost use Rattle.codes.specs.Refusals.{after, refusal-of};
-ghost use Rattle.bench.specs.BenchCalls.{close-call, clear-sync-call, draw-call, fresh, left-by, load-bits-call, load-plan-call, open-call, plan-left-by, set-cell-call, set-gain-call, set-sync-call, start-call, told-call, told-draw};
+ghost use Rattle.bench.specs.BenchCalls.{close-call, clear-sync-call, draw-call, fresh, left-by, load-bits-call, load-plan-call, open-call, plan-left-by, set-cell-call, set-gain-call, set-sync-call, start-call, answer-of-call, answer-of-draw};
 ghost use Rattle.read.specs.Reading.{read-call};
 ghost use Rattle.harden.specs.Hardening.{harden-call};
 ghost use Rattle.read_sync.specs.SyncReading.{read-sync-call};
@@ -61,7 +61,7 @@ pub struct FindResult {
 
 // What a call that only changes settings, or starts a slot, answered and left.
 fn call_result(r: Answered) -> CallResult
-    ensures refusal { λ c. ⌜ c .refusal ≡ refusal-of (told-call (r .answer)) ⌝ }
+    ensures refusal { λ c. ⌜ c .refusal ≡ refusal-of (answer-of-call (r .answer)) ⌝ }
     ensures bench { λ c. ⌜ c .bench ≡ r .bench ⌝ }
 {
     let bench = r.bench;
@@ -181,7 +181,7 @@ pub extern "C" fn tdd_bench_start(bench: Bench) -> CallResult
 
 // Document 01's number of a refused draw, or 0.
 fn draw_refusal(answer: DrawAnswer) -> u32
-    ensures { λ r. ⌜ r ≡ refusal-of (told-draw answer) ⌝ }
+    ensures { λ r. ⌜ r ≡ refusal-of (answer-of-draw answer) ⌝ }
 {
     match answer {
         DrawAnswer::Drew(_) => 0,
@@ -191,7 +191,7 @@ fn draw_refusal(answer: DrawAnswer) -> u32
 
 // How many chips a draw wrote, 0 where it was refused.
 fn draw_count(answer: DrawAnswer) -> usize
-    ensures { λ r. ⌜ r ≡ after (told-draw answer) 0 (λ m. m) ⌝ }
+    ensures { λ r. ⌜ r ≡ after (answer-of-draw answer) 0 (λ m. m) ⌝ }
 {
     match answer {
         DrawAnswer::Drew(count) => count,

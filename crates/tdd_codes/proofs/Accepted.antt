@@ -6,7 +6,7 @@ use lib.Dec.{leb}
 use Rattle.codes.specs.Calls.{code-group-call, element-call, related-call, scrambling-call, allocation-call, burst-start-call, primary-call, secondary-call}
 use Rattle.codes.specs.Refusals.{_if_}
 use Rattle.codes.specs.Tree.{is-spreading-factor}
-use Rattle.codes.specs.Allocation.{one-or-two, is-frame-and-half}
+use Rattle.codes.specs.Allocation.{one-or-two, bad-frame-or-half}
 use Rattle.codes.specs.SyncCodes.{is-sync-code}
 use Rattle.codes.proofs.Refused.{numbered, 0-accepts, ZeroAccepts}
 
@@ -38,7 +38,7 @@ secondary-0 i chip = 0-accepts _ (16 if not (is-sync-code i) ∷ 16 if leb 256 c
 pub allocation-0 : (case g frame half : ℕ) → ZeroAccepts (allocation-call case g frame half)
 unfolding numbered
 allocation-0 case g frame half =
-    0-accepts _ (1 if leb 32 g ∷ 14 if not (one-or-two case) ∷ 15 if not (is-frame-and-half case frame half) ∷ []) tt
+    0-accepts _ (1 if leb 32 g ∷ 14 if not (one-or-two case) ∷ 15 if bad-frame-or-half case frame half ∷ []) tt
 
 pub burst-start-0 : (g : ℕ) → ZeroAccepts (burst-start-call g)
 unfolding numbered

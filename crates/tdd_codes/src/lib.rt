@@ -1,10 +1,10 @@
-// The code rules for C and Rust hosts, as include/tdd_codes.h declares them: each function is the call of `codes` that its name ends with.
+// The code rules for C and Rust hosts, as include/tdd_codes.h declares them: each export is the call of `codes` that its name ends with.
 // `refusal` is document 01's number, or 0 where the call is accepted; the other fields are 0 where it is refused.
 ghost use mathlib.Core.Path.{_≡_};
 ghost use mathlib.Core.Bool.{cond};
 ghost use lib.IntN.{pos};
 ghost use Rattle.complex.specs.Arithmetic.{𝟎};
-ghost use Rattle.codes.specs.Calls.{code-group-call, element-call, related-call, scrambling-call, told-chip, allocation-call, burst-start-call, primary-call, secondary-call};
+ghost use Rattle.codes.specs.Calls.{code-group-call, element-call, related-call, scrambling-call, answer-of-chip, allocation-call, burst-start-call, primary-call, secondary-call};
 ghost use Rattle.codes.specs.Refusals.{after, refusal-of};
 ghost use Rattle.codes.specs.Allocation.{silent};
 use codes::Allocated;
@@ -108,8 +108,8 @@ pub struct ChipResult {
 
 // The answer of a call that gives a chip.
 fn chip_result(answer: ChipAnswer) -> ChipResult
-    ensures refusal { λ r. ⌜ r .refusal ≡ refusal-of (told-chip answer) ⌝ }
-    ensures chip { λ r. ⌜ r .chip ≡ after (told-chip answer) 𝟎 (λ x. x) ⌝ }
+    ensures refusal { λ r. ⌜ r .refusal ≡ refusal-of (answer-of-chip answer) ⌝ }
+    ensures chip { λ r. ⌜ r .chip ≡ after (answer-of-chip answer) 𝟎 (λ x. x) ⌝ }
 {
     match answer {
         ChipAnswer::Chip(x) => ChipResult {

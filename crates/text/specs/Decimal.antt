@@ -19,37 +19,37 @@ are-digits [] = true
 are-digits (b ∷ w) = is-digit b && are-digits w
 
 -- "A number is a row of decimal digits": at least one
-abbrev pub is-row : List ℕ → Bool
-is-row [] = false
-is-row (b ∷ w) = are-digits (b ∷ w)
+abbrev pub is-number : List ℕ → Bool
+is-number [] = false
+is-number (b ∷ w) = are-digits (b ∷ w)
 
 -- the value of the digits w written after those of v
-unfoldable pub value-after : ℕ → List ℕ → ℕ
-value-after v [] = v
-value-after v (b ∷ w) = value-after (v * 10 + (b - 48)) w
+unfoldable pub decimal-after : ℕ → List ℕ → ℕ
+decimal-after v [] = v
+decimal-after v (b ∷ w) = decimal-after (v * 10 + (b - 48)) w
 
-abbrev pub value : List ℕ → ℕ
-value w = value-after 0 w
+abbrev pub decimal-value : List ℕ → ℕ
+decimal-value w = decimal-after 0 w
 
 -- a row of digits with a value of at most m
 abbrev pub at-most : ℕ → List ℕ → Bool
-at-most m w = is-row w && leb (value w) m
+at-most m w = is-number w && leb (decimal-value w) m
 
 -- "with value from 0 to 4,294,967,295"
-abbrev pub natural : List ℕ → Option ℕ
-natural w = cond (at-most 4294967295 w) (some (value w)) none
+abbrev pub natural-in : List ℕ → Option ℕ
+natural-in w = cond (at-most 4294967295 w) (some (decimal-value w)) none
 
 -- "a component may have `-` before it, with value from -2,147,483,648 to 2,147,483,647": 45 is the byte of `-`
-abbrev pub component : List ℕ → Option ℤ
-component [] = none
-component (b ∷ w) =
-    cond (eqb b 45) (cond (at-most 2147483648 w) (some (negℤ (pos (value w)))) none) (cond (at-most 2147483647 (b ∷ w)) (some (pos (value (b ∷ w)))) none)
+abbrev pub component-in : List ℕ → Option ℤ
+component-in [] = none
+component-in (b ∷ w) =
+    cond (eqb b 45) (cond (at-most 2147483648 w) (some (negℤ (pos (decimal-value w)))) none) (cond (at-most 2147483647 (b ∷ w)) (some (pos (decimal-value (b ∷ w)))) none)
 
 -- the number that each case stands for
-abbrev pub told-natural : Natural → Option ℕ
-told-natural (IsNatural v) = some v
-told-natural NoNatural = none
+abbrev pub number-of-natural : Natural → Option ℕ
+number-of-natural (IsNatural v) = some v
+number-of-natural NoNatural = none
 
-abbrev pub told-component : Component → Option ℤ
-told-component (IsComponent v) = some v
-told-component NoComponent = none
+abbrev pub number-of-component : Component → Option ℤ
+number-of-component (IsComponent v) = some v
+number-of-component NoComponent = none

@@ -9,7 +9,7 @@ pub const FAILED: usize = 65537;
 pub type Answers = [u8; ROOM];
 
 // Writes what the buffer has.
-pub fn flush(out: &mut Answers, n: usize) -> usize {
+pub fn flush(out: &Answers, n: usize) -> usize {
     if write_first(out, n) { 0 } else { FAILED }
 }
 

@@ -5,7 +5,7 @@ ghost use mathlib.Core.Bool.{cond};
 ghost use mathlib.Core.Option.{some, none};
 ghost use lib.Dec.{leb};
 ghost use lib.IntN.{pos, negℤ};
-ghost use Rattle.text.specs.Decimal.{at-most, component, is-digit, natural, told-component, told-natural, value};
+ghost use Rattle.text.specs.Decimal.{at-most, component-in, is-digit, natural-in, number-of-component, number-of-natural, decimal-value};
 
 pub enum Natural {
     Is(u32),
@@ -32,7 +32,7 @@ pub fn digit(b: u8) -> u64
 
 // The number that the digits of w write.
 pub fn to_natural(w: &[u8]) -> Natural
-    ensures { λ r. ⌜ told-natural r ≡ natural (now (w .entry)) ⌝ }
+    ensures { λ r. ⌜ number-of-natural r ≡ natural-in (now (w .entry)) ⌝ }
 {
     if w.len() == 0 {
         return Natural::Bad;
@@ -53,7 +53,7 @@ pub fn to_natural(w: &[u8]) -> Natural
 
 // v as a component, where it fits.
 fn plus(v: u32) -> Component
-    ensures { λ r. ⌜ told-component r ≡ cond (leb v 2147483647) (some (pos v)) none ⌝ }
+    ensures { λ r. ⌜ number-of-component r ≡ cond (leb v 2147483647) (some (pos v)) none ⌝ }
 {
     if v > 2147483647 {
         return Component::Bad;
@@ -63,7 +63,7 @@ fn plus(v: u32) -> Component
 
 // -v as a component, where it fits. `!x` is -x - 1, and fits whatever x is.
 fn minus(v: u32) -> Component
-    ensures { λ r. ⌜ told-component r ≡ cond (leb v 2147483648) (some (negℤ (pos v))) none ⌝ }
+    ensures { λ r. ⌜ number-of-component r ≡ cond (leb v 2147483648) (some (negℤ (pos v))) none ⌝ }
 {
     if v == 0 {
         return Component::Is(0);
@@ -76,7 +76,7 @@ fn minus(v: u32) -> Component
 
 // The number that `-` before the digits of w writes.
 fn negated(w: &[u8]) -> Component
-    ensures { λ r. ⌜ told-component r ≡ cond (at-most 2147483648 (now (w .entry))) (some (negℤ (pos (value (now (w .entry)))))) none ⌝ }
+    ensures { λ r. ⌜ number-of-component r ≡ cond (at-most 2147483648 (now (w .entry))) (some (negℤ (pos (decimal-value (now (w .entry)))))) none ⌝ }
 {
     match to_natural(w) {
         Natural::Is(v) => minus(v),
@@ -86,7 +86,7 @@ fn negated(w: &[u8]) -> Component
 
 // The number that w writes, with `-` before its digits where it is negative.
 pub fn to_component(w: &[u8]) -> Component
-    ensures { λ r. ⌜ told-component r ≡ component (now (w .entry)) ⌝ }
+    ensures { λ r. ⌜ number-of-component r ≡ component-in (now (w .entry)) ⌝ }
 {
     if w.len() == 0 {
         return Component::Bad;

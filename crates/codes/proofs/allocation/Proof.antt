@@ -4,7 +4,7 @@ use borrow.Author.Needs.{needs}
 use borrow.Author.Tests.{not-true, not-false, le-leb, lt-leb}
 use mathlib.Core.Bool.{true}
 use Rattle.codes.specs.Refusals.{gives}
-use Rattle.codes.specs.Allocation.{one-or-two, is-frame-and-half}
+use Rattle.codes.specs.Allocation.{one-or-two}
 use Rattle.codes.proofs.allocation.Statement.{statement}
 use Rattle.codes.proofs.allocation.Tie as tie
 
@@ -25,8 +25,8 @@ returns-2 c =
       sym (c .before .one-or-two .ensures) ∙ not-true (c .before .one-or-two .result) (c .if2 .taken),
     )
 
-is-frame-and-half-requires : tie.Need-is-frame-and-half-requires
-is-frame-and-half-requires c κs = search needs
+is-bad-frame-or-half-requires : tie.Need-is-bad-frame-or-half-requires
+is-bad-frame-or-half-requires c κs = search needs
 
 returns-3 : tie.Need-returns-3
 returns-3 c =
@@ -34,7 +34,7 @@ returns-3 c =
     rw (
       lt-leb 32 (d .before .before .before .before .args .group .0) (d .before .before .if1 .left),
       good-case d,
-      sym (c .before .is-frame-and-half .ensures) ∙ not-true (c .before .is-frame-and-half .result) (c .if3 .taken),
+      sym (c .before .is-bad-frame-or-half .ensures) ∙ c .if3 .taken,
     )
 
 allocated-requires : tie.Need-allocated-requires
@@ -46,9 +46,9 @@ returns-4 c =
     rw (
       lt-leb 32 (d .before .before .before .before .args .group .0) (d .before .before .if1 .left),
       good-case d,
-      sym (c .before .before .is-frame-and-half .ensures) ∙ not-false (c .before .before .is-frame-and-half .result) (c .before .if3 .left),
+      sym (c .before .before .is-bad-frame-or-half .ensures) ∙ c .before .if3 .left,
     )
     (ap gives (c .allocated .ensures))
 
 pub allocation-spec : {M : Type 1} → statement M
-allocation-spec = tie.close (tie.spec returns one-or-two-requires returns-2 is-frame-and-half-requires returns-3 allocated-requires returns-4)
+allocation-spec = tie.close (tie.spec returns one-or-two-requires returns-2 is-bad-frame-or-half-requires returns-3 allocated-requires returns-4)

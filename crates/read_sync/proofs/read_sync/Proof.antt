@@ -9,7 +9,7 @@ use borrow.Author.Tests.{eq-eqb, ne-eqb, eqb-true, not-false}
 use lib.Dec.{eqb}
 use lib.ListN.{length, take}
 use Rattle.complex.specs.Buffers.{value}
-use Rattle.codes.specs.Refusals.{refused, gives, Refusal, _if_, number}
+use Rattle.codes.specs.Refusals.{refused, gives, Refusal, _if_, refusal-number}
 use Rattle.codes.specs.Allocation.{one-or-two}
 use Rattle.codes.proofs.Refused.{numbered, Passed, passed, accepted, not-accepted, refused-early, passed-early}
 use Rattle.codes.proofs.Tests.{neither}
@@ -33,7 +33,7 @@ refusal-requires c κs = search needs
 returns : tie.Need-returns
 returns c =
     let s = c .before .before in
-    let some : number (early s) ≢ 0 = λ z. c .if1 .taken (c .before .refusal .ensures ∙ z) in
+    let some : refusal-number (early s) ≢ 0 = λ z. c .if1 .taken (c .before .refusal .ensures ∙ z) in
     let e = refused-early (early s) (late s) some in
     ap refused (c .before .refusal .ensures ∙ sym e) ∙ sym (not-accepted _ (early s ++ late s) (λ z. some (sym e ∙ z)))
 
@@ -62,7 +62,7 @@ returns-2 c =
     let s = l .before .before .before in
     let w = leads-is _ _ _ (l .lead .ensures) (c .before .if2 .taken) in
     let some = ne-eqb (winner (s .args .case) (value (s .args .re .now) (s .args .im .now))) (candidates (s .args .case)) (λ z. absurd (omega (arith, l .lead .ensures .below, sym w ∙ z))) in
-    let none : number (early s ++ late s) ≡ 0 = passed-early (early s) (late s) (tests (l .before)) ∙ ap (λ (t : Bool). cond t 19 0) some in
+    let none : refusal-number (early s ++ late s) ≡ 0 = passed-early (early s) (late s) (tests (l .before)) ∙ ap (λ (t : Bool). cond t 19 0) some in
     ap gives (c .candidate .ensures ∙ ap (candidate (s .args .case)) (sym w)) ∙ sym (accepted _ (early s ++ late s) tt none)
 
 returns-3 : tie.Need-returns-3
@@ -71,7 +71,7 @@ returns-3 c =
     let s = l .before .before .before in
     let w = leads-none _ _ _ (l .lead .ensures) (c .if2 .left) in
     let all = eq-eqb (winner (s .args .case) (value (s .args .re .now) (s .args .im .now))) (candidates (s .args .case)) w in
-    let e : number (early s ++ late s) ≡ 19 = passed-early (early s) (late s) (tests (l .before)) ∙ ap (λ (t : Bool). cond t 19 0) all in
+    let e : refusal-number (early s ++ late s) ≡ 19 = passed-early (early s) (late s) (tests (l .before)) ∙ ap (λ (t : Bool). cond t 19 0) all in
     ap refused (sym e) ∙ sym (not-accepted _ (early s ++ late s) (λ z. absurd (omega (arith, sym e ∙ z))))
 
 pub read-sync-spec : {M : Type 1} → statement M

@@ -2,8 +2,8 @@
 use mathlib.Core.Path.{sym, ap, _∙_}
 use lib.ListN.{take}
 use borrow.Author.Needs.{needs}
-use Rattle.bench.specs.BenchCalls.{load-plan-call, told-plan}
-use Rattle.tdd_bench.proofs.Results.{told-place}
+use Rattle.bench.specs.BenchCalls.{load-plan-call, answer-of-plan}
+use Rattle.tdd_bench.proofs.Results.{answer-place}
 use Rattle.tdd_bench.proofs.tdd_bench_load_records.Statement.{statement}
 use Rattle.tdd_bench.proofs.tdd_bench_load_records.Tie as tie
 
@@ -12,7 +12,7 @@ returns c =
     let l = c .before .before .before in
     let s = l .before .args in
     let e = l .load-records .ensures in
-    let t = told-place (load-plan-call (s .bench) (take (s .count) (s .plan .records))) (sym (ap told-plan (c .enum-told .given .1)) ∙ e .0) in
+    let t = answer-place (load-plan-call (s .bench) (take (s .count) (s .plan .records))) (sym (ap answer-of-plan (c .enum-told .given .1)) ∙ e .0) in
     (t .0, (t .1, e .1))
 
 returns-2 : tie.Need-returns-2
@@ -20,7 +20,7 @@ returns-2 c =
     let l = c .before .before .before .before in
     let s = l .before .args in
     let e = l .load-records .ensures in
-    let t = told-place (load-plan-call (s .bench) (take (s .count) (s .plan .records))) (sym (ap told-plan (c .before .answer .given .1)) ∙ e .0) in
+    let t = answer-place (load-plan-call (s .bench) (take (s .count) (s .plan .records))) (sym (ap answer-of-plan (c .before .answer .given .1)) ∙ e .0) in
     (t .0, (t .1, e .1))
 
 pub tdd-bench-load-records-spec : {M : Type 1} → statement M

@@ -7,14 +7,14 @@ use Prim.Native.Nat.{ℕ}
 use borrow.Author.Needs.{needs}
 use Rattle.codes.proofs.Refused.{held}
 use Rattle.find.specs.declared.Peak.{Peak}
-use Rattle.find.specs.Finding.{told-find}
+use Rattle.find.specs.Finding.{answer-of-find}
 use Rattle.tdd_bench.proofs.tdd_find.Statement.{statement}
 use Rattle.tdd_bench.proofs.tdd_find.Tie as tie
 
 returns : tie.Need-returns
 returns c =
     let e = c .before .before .before .before .before .before .find .ensures in
-    let p = sym (ap told-find (c .before .before .answer .given .1)) ∙ e .0 in
+    let p = sym (ap answer-of-find (c .before .before .answer .given .1)) ∙ e .0 in
     let z = c .before .before .answer .given .0 .0 .size in
     let as-stored : toZ w64 (ofZ w64 z) ≡ z = search needs in
     let start = held {B = ℕ} 0 (λ (x : Peak). x .start) p in
@@ -23,7 +23,7 @@ returns c =
 returns-2 : tie.Need-returns-2
 returns-2 c =
     let e = c .before .before .before .before .before .find .ensures in
-    let p = sym (ap told-find (c .before .answer2 .given .1)) ∙ e .0 in
+    let p = sym (ap answer-of-find (c .before .answer2 .given .1)) ∙ e .0 in
     let start = held {B = ℕ} 0 (λ (x : Peak). x .start) p in
     (start .0, (start .1, (held (pos 0) (λ (x : Peak). x .size) p .1, e .1)))
 

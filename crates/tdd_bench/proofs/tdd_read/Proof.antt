@@ -3,8 +3,8 @@ use mathlib.Core.Path.{sym, ap, _∙_}
 use denote.Ref.{now}
 use lib.ListN.{length}
 use borrow.Author.Needs.{needs}
-use Rattle.read.specs.Reading.{read-call, told-read}
-use Rattle.tdd_bench.proofs.Results.{told-refusal}
+use Rattle.read.specs.Reading.{read-call, answer-of-read}
+use Rattle.tdd_bench.proofs.Results.{answer-refusal}
 use Rattle.tdd_bench.proofs.tdd_read.Statement.{statement}
 use Rattle.tdd_bench.proofs.tdd_read.Tie as tie
 
@@ -14,7 +14,7 @@ returns c =
     let s = d .before .before .before .args in
     let e = d .read .ensures in
     let a = read-call (s .cell) (s .q) (s .k) (now (s .re)) (now (s .im)) (length (now (s .outre))) (length (now (s .outim))) in
-    (told-refusal a (sym (ap told-read (c .enum-told .given .1)) ∙ e .0), e .1)
+    (answer-refusal a (sym (ap answer-of-read (c .enum-told .given .1)) ∙ e .0), e .1)
 
 returns-2 : tie.Need-returns-2
 returns-2 c =
@@ -22,7 +22,7 @@ returns-2 c =
     let s = d .before .before .before .args in
     let e = d .read .ensures in
     let a = read-call (s .cell) (s .q) (s .k) (now (s .re)) (now (s .im)) (length (now (s .outre))) (length (now (s .outim))) in
-    (told-refusal a (sym (ap told-read (c .before .answer .given .1)) ∙ e .0), e .1)
+    (answer-refusal a (sym (ap answer-of-read (c .before .answer .given .1)) ∙ e .0), e .1)
 
 pub tdd-read-spec : {M : Type 1} → statement M
 tdd-read-spec =

@@ -1,6 +1,6 @@
 -- `times_one_minus_j` meets its contract: 1 - j is the conjugate of 1 + j. Assumes nothing.
 use mathlib.Core.Path.{sym, _∙_}
-use lib.IntN.{ℤ, _+ℤ_, _-ℤ_}
+use lib.IntN.{_+ℤ_, _-ℤ_}
 use mir.Syntax.{w32}
 use mir.Val.{SFits}
 use mir.Facts.{toZ-ofZ}

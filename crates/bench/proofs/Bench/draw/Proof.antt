@@ -14,10 +14,10 @@ use Rattle.complex.specs.Buffers.{listed, written, in-buffers}
 use Rattle.slot.specs.Slot.{chip}
 use Rattle.slot.specs.Tables.{view}
 use Rattle.complex.proofs.Lists.{length-listed}
-use Rattle.codes.specs.Refusals.{Answer, gives, refused, after, number}
+use Rattle.codes.specs.Refusals.{Answer, gives, refused, after, refusal-number}
 use Rattle.codes.proofs.Refused.{numbered, passed, accepted, not-accepted}
 use Rattle.bench.specs.declared.Bench.{Bench}
-use Rattle.bench.specs.BenchCalls.{Draw, under-way, draw-refusals, moved-on, draw-call, counted}
+use Rattle.bench.specs.BenchCalls.{Draw, is-running, draw-refusals, moved-on, draw-call, counted}
 use Rattle.bench.proofs.Bench.draw.Statement.{statement}
 use Rattle.bench.proofs.Bench.draw.Tie as tie
 
@@ -27,23 +27,23 @@ written-prefix : (f : ℕ → ℤ) (n : ℕ) (d : List ℤ) {new : List ℤ} →
 written-prefix f n d l e = rw (e, l, length-listed f n)
 
 -- the call's answer, where the tests found a number and where they found none
-module _ (b : Bench) (n m : ℕ) {r : ℕ} (e : r ≡ number (draw-refusals (under-way b) n m)) where
+module _ (b : Bench) (n m : ℕ) {r : ℕ} (e : r ≡ refusal-number (draw-refusals (is-running b) n m)) where
   abbrev told : Answer Draw
   told = draw-call b n m
 
   not-drawn : r ≢ 0 → told ≡ refused r
-  not-drawn d = not-accepted _ (draw-refusals (under-way b) n m) (λ z. d (e ∙ z)) ∙ ap refused (sym e)
+  not-drawn d = not-accepted _ (draw-refusals (is-running b) n m) (λ z. d (e ∙ z)) ∙ ap refused (sym e)
 
   -- where they found none, the lengths are the same
   same-lengths : r ≡ 0 → n ≡ m
   unfolding numbered
-  same-lengths z = eqb-true n m (not-false (eqb n m) (passed (draw-refusals (under-way b) n m) tt (sym e ∙ z) .1 .0))
+  same-lengths z = eqb-true n m (not-false (eqb n m) (passed (draw-refusals (is-running b) n m) tt (sym e ∙ z) .1 .0))
 
   drawn : (k : ℕ) → k ≡ min n (2560 - b .position) → r ≡ 0
       → told ≡ gives (record { count = k; chips = in-buffers k (λ i. chip (view (b .sending)) (b .position + i)); bench = moved-on b k })
   unfolding numbered
   drawn k q z =
-      accepted _ (draw-refusals (under-way b) n m) tt (sym e ∙ z)
+      accepted _ (draw-refusals (is-running b) n m) tt (sym e ∙ z)
       ∙ ap (λ (k : ℕ). gives (record { count = k; chips = in-buffers k (λ i. chip (view (b .sending)) (b .position + i)); bench = moved-on b k })) (sym q)
 
 -- how many chips are written

@@ -10,7 +10,7 @@ use lib.ListN.{drop}
 use Rattle.codes.specs.Refusals.{Refusal}
 use Rattle.codes.proofs.Refused.{numbered, Passed}
 use Rattle.slot.specs.Tables.{view}
-use Rattle.tables.specs.Held.{with-open-cleared}
+use Rattle.tables.specs.PairChanges.{with-open-cleared}
 use Rattle.tables.proofs.Blocks.{Code}
 use Rattle.tables.proofs.Cleared.{first-open}
 use Rattle.bench.specs.BenchCalls.{open-refusals}

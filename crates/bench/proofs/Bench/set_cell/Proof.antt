@@ -6,7 +6,7 @@ use Rattle.codes.specs.Refusals.{Refusal}
 use Rattle.codes.proofs.Refused.{numbered}
 use Rattle.slot.specs.declared.Sync.{Sync}
 use Rattle.bench.specs.BenchCalls.{set-cell-refusals}
-use Rattle.bench.specs.Changes.{closed, with-settings, with-sync}
+use Rattle.bench.specs.Changes.{cell-settings, with-settings, with-sync}
 use Rattle.bench.proofs.Accepted.{call-refused, call-accepted}
 use Rattle.bench.proofs.Bench.set_cell.Statement.{statement}
 use Rattle.bench.proofs.Bench.set_cell.Tie as tie
@@ -30,7 +30,7 @@ returns-2 c =
     let d = f .before .before in
     let s = d .before .args in
     let a = call-accepted (refusals (d .before)) (s .self) _ (d .set-cell .ensures) tt (f .before .if1 .left) in
-    (a .0, ap (λ (y : Sync). with-settings (s .self) (with-sync (closed (s .cell) (s .kind) (s .self .settings .pairs)) y)) (f .no-sync .ensures) ∙ a .1)
+    (a .0, ap (λ (y : Sync). with-settings (s .self) (with-sync (cell-settings (s .cell) (s .kind) (s .self .settings .pairs)) y)) (f .no-sync .ensures) ∙ a .1)
 
 pub set-cell-spec : {M : Type 1} → statement M
 set-cell-spec = tie.close (tie.spec set-cell-requires returns no-sync-requires returns-2)

@@ -4,13 +4,13 @@ use mathlib.Core.Bool.{Bool, not, cond}
 use mathlib.Core.List.{List}
 use borrow.Author.Needs.{needs}
 use lib.ListN.{drop}
-use Rattle.codes.specs.Refusals.{Refusal, number}
+use Rattle.codes.specs.Refusals.{Refusal, refusal-number}
 use Rattle.codes.proofs.Refused.{numbered}
 use Rattle.slot.specs.declared.Settings.{Settings}
 use Rattle.slot.specs.Tables.{view}
 use Rattle.tables.proofs.Blocks.{Code}
 use Rattle.bench.specs.BenchCalls.{close-refusals}
-use Rattle.bench.specs.Held.{code-refusals}
+use Rattle.bench.specs.CodeRefusals.{code-refusals}
 use Rattle.bench.proofs.Accepted.{refused-first, passed-first, found-code}
 use Rattle.bench.proofs.Opened.{open-in-gains}
 use Rattle.bench.proofs.refusals.close.Statement.{statement}
@@ -36,7 +36,7 @@ is-open-requires c κs = let h = code c in (h .below, h .small)
 
 -- the last test
 last : (c : tie.After-is-open) (t : Settings) → let s = c .before .before .before in
-    t .gains ≡ s .args .gains .now → number (refusals s t) ≡ cond (not (c .is-open .result)) 7 0
+    t .gains ≡ s .args .gains .now → refusal-number (refusals s t) ≡ cond (not (c .is-open .result)) 7 0
 unfolding numbered
 last c t g =
     let d = c .before in

@@ -6,7 +6,7 @@ use native.Mathlib.Omega.{arith}
 use borrow.Author.Needs.{needs}
 use borrow.Author.Tests.{eq-eqb, ne-eqb}
 use lib.ListN.{drop, length}
-use Rattle.codes.specs.Refusals.{Refusal, number}
+use Rattle.codes.specs.Refusals.{Refusal, refusal-number}
 use Rattle.codes.proofs.Refused.{numbered}
 use Rattle.slot.specs.Slot.{bit-count}
 use Rattle.slot.specs.declared.Settings.{Settings}
@@ -40,7 +40,7 @@ bit-count-requires c κs =
     omega arith
 
 -- those of `close` have passed
-passed-7 : (c : tie.Else1) (t : Settings) → let s = c .before .before .before in t .gains ≡ s .args .gains .now → number (first s t ++ rest s t) ≡ number (rest s t)
+passed-7 : (c : tie.Else1) (t : Settings) → let s = c .before .before .before in t .gains ≡ s .args .gains .now → refusal-number (first s t ++ rest s t) ≡ refusal-number (rest s t)
 unfolding numbered
 passed-7 c t g = let s = c .before .before .before in passed-first (first s t) (c .before .close .ensures t g) (rest s t) tt (c .if1 .left)
 
@@ -56,7 +56,7 @@ has-byte-above-1-requires c κs = search needs
 
 -- the last test
 last : (c : tie.After-has-byte-above-1) (t : Settings) → let s = c .before .before .before .before .before .before in
-    t .gains ≡ s .args .gains .now → t .kind ≡ s .args .kind → number (first s t ++ rest s t) ≡ cond (c .has-byte-above-1 .result) 9 0
+    t .gains ≡ s .args .gains .now → t .kind ≡ s .args .kind → refusal-number (first s t ++ rest s t) ≡ cond (c .has-byte-above-1 .result) 9 0
 unfolding view
 last c t g h =
     let e = c .before in

@@ -4,12 +4,12 @@ use mathlib.Core.Bool.{Bool, cond}
 use mathlib.Core.List.{List}
 use borrow.Author.Needs.{needs}
 use lib.ListN.{drop}
-use Rattle.codes.specs.Refusals.{Refusal, number}
+use Rattle.codes.specs.Refusals.{Refusal, refusal-number}
 use Rattle.codes.proofs.Refused.{numbered}
 use Rattle.slot.specs.declared.Settings.{Settings}
 use Rattle.slot.specs.Tables.{view}
 use Rattle.bench.specs.BenchCalls.{open-refusals}
-use Rattle.bench.specs.Held.{code-refusals}
+use Rattle.bench.specs.CodeRefusals.{code-refusals}
 use Rattle.bench.proofs.Accepted.{refused-first, passed-first}
 use Rattle.bench.proofs.Opened.{related-in-gains}
 use Rattle.bench.proofs.refusals.open.Statement.{statement}
@@ -27,7 +27,7 @@ returns c t g =
     refused-first (code-refusals (s .args .q) (s .args .k)) (c .before .code .ensures) (drop 2 (refusals s t)) (c .if1 .taken)
 
 -- 3 and 4 have passed
-passed-4 : (c : tie.Else1) (t : Settings) → let s = c .before .before in number (refusals s t) ≡ number (drop 2 (refusals s t))
+passed-4 : (c : tie.Else1) (t : Settings) → let s = c .before .before in refusal-number (refusals s t) ≡ refusal-number (drop 2 (refusals s t))
 unfolding numbered
 passed-4 c t =
     let s = c .before .before in
@@ -44,7 +44,7 @@ is-related-to-open-requires c κs = search needs
 
 -- the last test
 last : (c : tie.After-is-related-to-open) (t : Settings) → let s = c .before .before .before .before .before in
-    t .gains ≡ s .args .gains .now → number (refusals s t) ≡ cond (c .is-related-to-open .result) 6 0
+    t .gains ≡ s .args .gains .now → refusal-number (refusals s t) ≡ cond (c .is-related-to-open .result) 6 0
 last c t g =
     let e = c .before in
     let s = e .before .before .before .before .args in

@@ -4,13 +4,13 @@ use mathlib.Core.Bool.{Bool, not, cond}
 use mathlib.Core.List.{List}
 use borrow.Author.Needs.{needs}
 use lib.ListN.{drop}
-use Rattle.codes.specs.Refusals.{Refusal, number}
+use Rattle.codes.specs.Refusals.{Refusal, refusal-number}
 use Rattle.codes.proofs.Refused.{numbered}
 use Rattle.slot.specs.declared.Settings.{Settings}
 use Rattle.slot.specs.Tables.{view}
 use Rattle.tables.proofs.Blocks.{Code}
 use Rattle.bench.specs.BenchCalls.{set-gain-refusals}
-use Rattle.bench.specs.Held.{code-refusals}
+use Rattle.bench.specs.CodeRefusals.{code-refusals}
 use Rattle.bench.proofs.Accepted.{refused-first, passed-first, found-code}
 use Rattle.bench.proofs.Opened.{open-in-gains}
 use Rattle.bench.proofs.refusals.set_gain.Statement.{statement}
@@ -35,7 +35,7 @@ module _ (c : tie.Else1) where
   code : Code (start .args .q) (start .args .k)
   code = found-code (start .args .q) (start .args .k) (c .before .code .ensures) (c .if1 .left)
 
-  passed-4 : (t : Settings) → number (refusals start t) ≡ number (drop 2 (refusals start t))
+  passed-4 : (t : Settings) → refusal-number (refusals start t) ≡ refusal-number (drop 2 (refusals start t))
   unfolding numbered
   passed-4 t =
       passed-first (code-refusals (start .args .q) (start .args .k)) (c .before .code .ensures) (drop 2 (refusals start t)) tt (c .if1 .left)
@@ -51,7 +51,7 @@ is-open-requires c κs = let h = code (c .before .before) in (h .below, h .small
 
 -- the last test
 last : (c : tie.After-is-open) (t : Settings) → let s = start (c .before .before .before) in
-    t .gains ≡ s .args .gains .now → number (refusals s t) ≡ cond (not (c .is-open .result)) 7 0
+    t .gains ≡ s .args .gains .now → refusal-number (refusals s t) ≡ cond (not (c .is-open .result)) 7 0
 last c t g =
     let e = c .before in
     let d = e .before .before in

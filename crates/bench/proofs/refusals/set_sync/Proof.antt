@@ -5,7 +5,7 @@ use mathlib.Core.List.{List}
 use borrow.Author.Needs.{needs}
 use borrow.Author.Tests.{eq-eqb, ne-eqb, not-true, not-false}
 use lib.ListN.{drop}
-use Rattle.codes.specs.Refusals.{Refusal, number}
+use Rattle.codes.specs.Refusals.{Refusal, refusal-number}
 use Rattle.slot.specs.Tables.{view}
 use Rattle.bench.specs.BenchCalls.{set-sync-refusals}
 use Rattle.bench.proofs.refusals.set_sync.Statement.{statement}
@@ -19,7 +19,7 @@ unfolding view
 returns c = rw (ne-eqb (c .before .before .args .s .kind) 1 (c .if1 .taken))
 
 -- 13 has passed
-passed-13 : (c : tie.Else1) → let s = c .before .before in number (refusals s) ≡ number (drop 1 (refusals s))
+passed-13 : (c : tie.Else1) → let s = c .before .before in refusal-number (refusals s) ≡ refusal-number (drop 1 (refusals s))
 unfolding view
 passed-13 c = rw (eq-eqb (c .before .before .args .s .kind) 1 (c .if1 .left))
 
@@ -32,24 +32,24 @@ returns-2 c =
     sym (passed-13 (d .before) ∙ rw (sym (d .one-or-two .ensures) ∙ not-true (d .one-or-two .result) (c .if2 .taken)))
 
 -- so has 14
-passed-14 : (c : tie.Else2) → let s = c .before .before .before .before in number (refusals s) ≡ number (drop 2 (refusals s))
+passed-14 : (c : tie.Else2) → let s = c .before .before .before .before in refusal-number (refusals s) ≡ refusal-number (drop 2 (refusals s))
 passed-14 c =
     let d = c .before in
     passed-13 (d .before) ∙ rw (sym (d .one-or-two .ensures) ∙ not-false (d .one-or-two .result) (c .if2 .left))
 
-is-frame-and-half-requires : tie.Need-is-frame-and-half-requires
-is-frame-and-half-requires c κs = search needs
+is-bad-frame-or-half-requires : tie.Need-is-bad-frame-or-half-requires
+is-bad-frame-or-half-requires c κs = search needs
 
 returns-3 : tie.Need-returns-3
 returns-3 c =
     let d = c .before in
-    sym (passed-14 (d .before) ∙ rw (sym (d .is-frame-and-half .ensures) ∙ not-true (d .is-frame-and-half .result) (c .if3 .taken)))
+    sym (passed-14 (d .before) ∙ rw (sym (d .is-bad-frame-or-half .ensures) ∙ c .if3 .taken))
 
 -- so has 15
-passed-15 : (c : tie.Else3) → let s = c .before .before .before .before .before .before in number (refusals s) ≡ number (drop 3 (refusals s))
+passed-15 : (c : tie.Else3) → let s = c .before .before .before .before .before .before in refusal-number (refusals s) ≡ refusal-number (drop 3 (refusals s))
 passed-15 c =
     let d = c .before in
-    passed-14 (d .before) ∙ rw (sym (d .is-frame-and-half .ensures) ∙ not-false (d .is-frame-and-half .result) (c .if3 .left))
+    passed-14 (d .before) ∙ rw (sym (d .is-bad-frame-or-half .ensures) ∙ c .if3 .left)
 
 is-bad-gain-requires : tie.Need-is-bad-gain-requires
 is-bad-gain-requires c κs = search needs
@@ -62,7 +62,7 @@ is-bad-gain-requires-2 c κs = search needs
 
 -- the last test
 last : (c : tie.After-is-bad-gain2)
-    → number (refusals (c .before .before .before .before .before .before .before .before .before)) ≡ cond (c .is-bad-gain2 .result) 5 0
+    → refusal-number (refusals (c .before .before .before .before .before .before .before .before .before)) ≡ cond (c .is-bad-gain2 .result) 5 0
 last c =
     let e = c .before in
     passed-15 (e .before .before) ∙ rw (sym (e .before .is-bad-gain .ensures) ∙ e .if4 .left, c .is-bad-gain2 .ensures)
@@ -80,7 +80,7 @@ set-sync-spec =
     returns
     one-or-two-requires
     returns-2
-    is-frame-and-half-requires
+    is-bad-frame-or-half-requires
     returns-3
     is-bad-gain-requires
     returns-4

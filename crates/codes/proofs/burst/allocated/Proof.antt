@@ -1,11 +1,11 @@
 -- `allocated` meets its contract: silent where a test fails, else the case's own allocation. Assumes nothing.
 use mathlib.Core.Path.{_≡_, sym, _∙_}
-use mathlib.Core.Bool.{true, false, and-false}
+use mathlib.Core.Bool.{false, and-false}
 use mathlib.Core.List.{[], _∷_}
 use borrow.Author.Needs.{needs}
-use borrow.Author.Tests.{not-true, not-false, le-leb, lt-leb}
+use borrow.Author.Tests.{le-leb, lt-leb}
 use lib.Dec.{leb}
-use Rattle.codes.specs.Allocation.{allocation, one-or-two, is-frame-and-half}
+use Rattle.codes.specs.Allocation.{allocation, one-or-two, bad-frame-or-half}
 use Rattle.codes.proofs.Tests.{none-of}
 use Rattle.codes.proofs.burst.allocated.Statement.{statement}
 use Rattle.codes.proofs.burst.allocated.Tie as tie
@@ -19,8 +19,8 @@ group-passed : (c : tie.Else2) → leb 32 (c .before .before .before .before .ar
 group-passed c = lt-leb 32 (c .before .before .before .before .args .group .0) (c .before .before .if1 .left)
 
 occasion-passed : (c : tie.Else2)
-    → is-frame-and-half (c .before .before .before .before .args .case) (c .before .before .before .before .args .frame) (c .before .before .before .before .args .half) ≡ true
-occasion-passed c = sym (c .before .is-frame-and-half .ensures) ∙ not-false (c .before .is-frame-and-half .result) (c .if2 .left)
+    → bad-frame-or-half (c .before .before .before .before .args .case) (c .before .before .before .before .args .frame) (c .before .before .before .before .args .half) ≡ false
+occasion-passed c = sym (c .before .is-bad-frame-or-half .ensures) ∙ c .if2 .left
 
 returns-2 : tie.Need-returns-2
 unfolding allocation
@@ -28,7 +28,7 @@ returns-2 c =
     let d = c .before .before in
     rw (
       lt-leb 32 (d .before .before .before .args .group .0) (d .before .if1 .left),
-      sym (d .is-frame-and-half .ensures) ∙ not-true (d .is-frame-and-half .result) (c .before .if2 .taken),
+      sym (d .is-bad-frame-or-half .ensures) ∙ c .before .if2 .taken,
       and-false,
     ) (c .silent2 .ensures)
 

@@ -8,7 +8,7 @@ use lib.Dec.{T, eqb, leb}
 use Rattle.complex.specs.Fits.{Both}
 use Rattle.codes.specs.Tree.{among}
 use Rattle.codes.specs.Range.{each}
-use Rattle.codes.specs.declared.burst.Row.{Row}
+use Rattle.codes.specs.declared.burst.AllocationRow.{AllocationRow}
 use Rattle.codes.specs.Allocation.{case-1}
 use Rattle.codes.proofs.Tests.{agree, agree→eq, each-at}
 use Rattle.codes.proofs.Allocations.{unit-small}
@@ -41,7 +41,7 @@ row-of-requires : tie.Need-row-of-requires
 row-of-requires c κs = search needs
 
 arranged-requires : tie.Need-arranged-requires
-arranged-requires c κs = subst (λ (r : Row). Both 1 (r .unit)) (sym (c .row-of .ensures)) (unit-small _ _)
+arranged-requires c κs = subst (λ (r : AllocationRow). Both 1 (r .unit)) (sym (c .row-of .ensures)) (unit-small _ _)
 
 returns : tie.Need-returns
 unfolding case-1

@@ -5,7 +5,7 @@ use lib.IntN.{_*ℤ_}
 use borrow.Author.Needs.{needs}
 use Rattle.complex.specs.Fits.{Both}
 use Rattle.codes.specs.Signs.{minus-if}
-use Rattle.codes.specs.declared.burst.Row.{Row}
+use Rattle.codes.specs.declared.burst.AllocationRow.{AllocationRow}
 use Rattle.codes.specs.Allocation.{case-2}
 use Rattle.codes.proofs.Allocations.{unit-small}
 use Rattle.codes.proofs.burst.case_2.Statement.{statement}
@@ -28,7 +28,7 @@ row-of-requires : tie.Need-row-of-requires
 row-of-requires c κs = search needs
 
 arranged-requires : tie.Need-arranged-requires
-arranged-requires c κs = subst (λ (r : Row). Both 1 (r .unit)) (sym (c .row-of .ensures)) (unit-small _ _)
+arranged-requires c κs = subst (λ (r : AllocationRow). Both 1 (r .unit)) (sym (c .row-of .ensures)) (unit-small _ _)
 
 returns : tie.Need-returns
 unfolding case-2

@@ -6,7 +6,7 @@ use borrow.Author.Needs.{needs}
 use mir.Syntax.{w32}
 use mir.Val.{SFits}
 use mir.Facts.{toZ-ofZ}
-use Rattle.codes.specs.Held.{sign-bit}
+use Rattle.codes.specs.PackedSigns.{sign-bit}
 use Rattle.codes.proofs.Rows.{annex-read-back, no-row-at, v-at}
 use Rattle.codes.proofs.scrambling.sign.Statement.{statement}
 use Rattle.codes.proofs.scrambling.sign.Tie as tie

@@ -7,7 +7,7 @@ use mir.Val.{SFits}
 use mir.Facts.{toZ-ofZ}
 use Rattle.complex.proofs.Machine.{neg-asks, neg-gives}
 use Rattle.complex.proofs.Sizes.{fits-within, within-neg}
-use Rattle.codes.specs.Held.{signed-by-j}
+use Rattle.codes.specs.PackedSigns.{signed-by-j}
 use Rattle.codes.proofs.scrambling.signed_by_j.Statement.{statement}
 use Rattle.codes.proofs.scrambling.signed_by_j.Tie as tie
 

@@ -1,7 +1,7 @@
 -- `sign_at` meets its contract. Assumes nothing.
 use borrow.Author.Needs.{needs}
 use borrow.Author.Tests.{lt-ltb, le-ltb, eq-eqb, ne-eqb}
-use Rattle.codes.specs.Held.{sign-bit}
+use Rattle.codes.specs.PackedSigns.{sign-bit}
 use Rattle.codes.proofs.signs.sign_at.Statement.{statement}
 use Rattle.codes.proofs.signs.sign_at.Tie as tie
 

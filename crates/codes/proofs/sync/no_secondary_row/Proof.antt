@@ -1,6 +1,6 @@
 -- `no_secondary_row` meets its contract: there are sixteen rows. Assumes nothing.
 use borrow.Author.Tests.{le-ltb}
-use Rattle.codes.specs.Held.{secondary-row}
+use Rattle.codes.specs.PackedSigns.{secondary-row}
 use Rattle.codes.proofs.Tests.{none-below}
 use Rattle.codes.proofs.sync.no_secondary_row.Statement.{statement}
 use Rattle.codes.proofs.sync.no_secondary_row.Tie as tie

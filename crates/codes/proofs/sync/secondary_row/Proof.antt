@@ -1,13 +1,14 @@
 -- `secondary_row` meets its contract: each row is computed from the definition. Assumes nothing.
 use mathlib.Core.Path.{sym, ap}
 use lib.Count.{ones, onesIn}
-use Rattle.codes.specs.Signs.{_at_}
-use Rattle.codes.specs.Held.{secondary-row}
+use Rattle.complex.specs.Buffers.{_at_}
+use Rattle.codes.specs.SyncCodes.{hadamard}
+use Rattle.codes.specs.PackedSigns.{secondary-row}
 use Rattle.codes.proofs.sync.secondary_row.Statement.{statement}
 use Rattle.codes.proofs.sync.secondary_row.Tie as tie
 
 pub secondary-row-spec : {M : Type 1} → statement M
-unfolding secondary-row ones onesIn _at_
+unfolding secondary-row hadamard ones onesIn _at_
 secondary-row-spec =
     tie.close
     (tie.spec

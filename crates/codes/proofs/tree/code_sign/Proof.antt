@@ -7,8 +7,8 @@ use lib.Dec.{T}
 use mir.Syntax.{w32}
 use mir.Val.{SFits}
 use mir.Facts.{toZ-ofZ, fits-below}
-use Rattle.codes.specs.Signs.{_at_}
-use Rattle.codes.specs.Held.{sign-bit}
+use Rattle.complex.specs.Buffers.{_at_}
+use Rattle.codes.specs.PackedSigns.{sign-bit}
 use Rattle.codes.specs.Tree.{is-spreading-factor, code}
 use Rattle.codes.proofs.Leaves.{not-below, not-factor, no-code, past-code, no-width, some-width, leaves-within, leaf-row, begins-with}
 use Rattle.codes.proofs.tree.code_sign.Statement.{statement}

@@ -1,7 +1,7 @@
 -- `no_leaf` meets its contract: the tree has sixteen leaves. Assumes nothing.
 use mathlib.Core.Path.{sym}
 use lib.ListN.{List·getD-eq-default}
-use Rattle.codes.specs.Held.{leaf-rows}
+use Rattle.codes.specs.PackedSigns.{leaf-rows}
 use Rattle.codes.proofs.Tests.{none-below}
 use Rattle.codes.proofs.tree.no_leaf.Statement.{statement}
 use Rattle.codes.proofs.tree.no_leaf.Tie as tie

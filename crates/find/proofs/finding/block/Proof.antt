@@ -7,7 +7,7 @@ use mir.Syntax.{w64}
 use mir.Val.{SFits}
 use mir.Facts.{toZ-ofZ}
 use Rattle.complex.proofs.Order.{ltZ-false, leZ-true, leZ-false, le-leZ}
-use Rattle.find.specs.Held.{sizes}
+use Rattle.find.specs.PeakSearch.{sizes}
 use Rattle.find.proofs.Blocks.{more-passed}
 use Rattle.find.proofs.finding.block.Statement.{statement}
 use Rattle.find.proofs.finding.block.Tie as tie

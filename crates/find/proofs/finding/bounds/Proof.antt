@@ -12,7 +12,7 @@ use mir.Val.{SFits, toZ, ofZ}
 use mir.Facts.{toZ-ofZ}
 use Rattle.complex.specs.Arithmetic.{_+j_, squared-size}
 use Rattle.analyser_parts.proofs.Products.{held}
-use Rattle.find.specs.Held.{Bounded, sizes}
+use Rattle.find.specs.PeakSearch.{Bounded, sizes}
 use Rattle.find.proofs.Blocks.{bounded-more, size-least}
 use Rattle.find.proofs.finding.bounds.Statement.{statement}
 use Rattle.find.proofs.finding.bounds.Tie as tie

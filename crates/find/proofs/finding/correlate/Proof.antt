@@ -7,11 +7,10 @@ use borrow.Author.Needs.{needs}
 use lib.Dec.{lit≤}
 use lib.IntN.{ℤ, pos}
 use lib.ListN.{length, take}
-use Rattle.complex.specs.Buffers.{listed}
+use Rattle.complex.specs.Buffers.{listed, _at_}
 use Rattle.complex.specs.Fits.{Within, Bound}
 use Rattle.complex.proofs.Bounds.{bound-more}
 use Rattle.complex.proofs.Lists.{length-listed, listed-at, take-written}
-use Rattle.find.specs.Held.{entries}
 use Rattle.find.proofs.Golay.{bound-held, entry-held, four-held, four-within, minus-pairs, plus-pairs, step-1, step-2, whole-held}
 use Rattle.find.proofs.finding.correlate.Statement.{statement}
 use Rattle.find.proofs.finding.correlate.Tie as tie
@@ -54,6 +53,7 @@ sub-sums-3 : tie.Need-sub-sums-3
 sub-sums-3 c = search needs
 
 sums-requires-2 : tie.Need-sums-requires-2
+unfolding _at_
 sums-requires-2 c κs =
     let s = c .before .before .before in
     let x = chips (start-1 s) in
@@ -75,11 +75,13 @@ module _ (c : tie.After-sums2) where
   second = c .sums2 .last .1 .1 .1 .1 .0
 
   second-holds : take (count start-2 - 15) second ≡ listed (count start-2 - 15) (step-2 (chips start-2))
+  unfolding _at_
   second-holds =
-      four-held (count start-2 - 15) (count start-2 - 9) (entries (take (count start-2 - 9) (first one))) (step-1 (chips start-2)) 2 4 6 _ (lit≤ tt) (lit≤ tt) (lit≤ tt)
-      (λ k l. ap (λ (z : List ℤ). entries z k) (first-holds one) ∙ listed-at (step-1 (chips start-2)) (pos 0) (count start-2 - 9) k l) (omega (arith, start-2 .pre .0)) (omega (arith, start-2 .pre .0)) (omega (arith, start-2 .pre .0)) (c .sums2 .ensures)
+      four-held (count start-2 - 15) (count start-2 - 9) (_at_ (take (count start-2 - 9) (first one))) (step-1 (chips start-2)) 2 4 6 _ (lit≤ tt) (lit≤ tt) (lit≤ tt)
+      (λ k l. ap (λ (z : List ℤ). z at k) (first-holds one) ∙ listed-at (step-1 (chips start-2)) (pos 0) (count start-2 - 9) k l) (omega (arith, start-2 .pre .0)) (omega (arith, start-2 .pre .0)) (omega (arith, start-2 .pre .0)) (c .sums2 .ensures)
 
   second-within : (i : ℕ) → Within 1600000 (step-2 (chips start-2) i)
+  unfolding _at_
   second-within i = four-within (λ k. four-within (start-2 .pre .4 .at) 1 8 9 k) 2 4 6 i
 
 pairs-requires : tie.Need-pairs-requires
@@ -108,12 +110,12 @@ module _ (c : tie.After-pairs) where
 
   sums-hold : take (count start-3 - 63) sums-of-pairs ≡ listed (count start-3 - 63) (plus-pairs (chips start-3))
   sums-hold =
-      four-held (count start-3 - 63) (count start-3 - 15) (entries (second two)) (step-2 (chips start-3)) 32 16 48 _ (lit≤ tt) (lit≤ tt) (lit≤ tt)
+      four-held (count start-3 - 63) (count start-3 - 15) (_at_ (second two)) (step-2 (chips start-3)) 32 16 48 _ (lit≤ tt) (lit≤ tt) (lit≤ tt)
       (entry-held (second two) (count start-3 - 15) (step-2 (chips start-3)) (second-holds two)) (omega (arith, start-3 .pre .0)) (omega (arith, start-3 .pre .0)) (omega (arith, start-3 .pre .0)) (c .pairs .ensures .0)
 
   differences-hold : take (count start-3 - 63) differences ≡ listed (count start-3 - 63) (minus-pairs (chips start-3))
   differences-hold =
-      four-held (count start-3 - 63) (count start-3 - 15) (entries (second two)) (step-2 (chips start-3)) 32 48 16 _ (lit≤ tt) (lit≤ tt) (lit≤ tt)
+      four-held (count start-3 - 63) (count start-3 - 15) (_at_ (second two)) (step-2 (chips start-3)) 32 48 16 _ (lit≤ tt) (lit≤ tt) (lit≤ tt)
       (entry-held (second two) (count start-3 - 15) (step-2 (chips start-3)) (second-holds two)) (omega (arith, start-3 .pre .0)) (omega (arith, start-3 .pre .0)) (omega (arith, start-3 .pre .0)) (c .pairs .ensures .1)
 
   -- the entries that the last step reads
@@ -143,7 +145,7 @@ returns c =
     let p = c .before .before .before .before .before .before in
     let s = start-3 p in
     let x = chips s in (
-      whole-held x (count s - 255) (entries (sums-of-pairs p)) (entries (differences p)) _
+      whole-held x (count s - 255) (_at_ (sums-of-pairs p)) (_at_ (differences p)) _
           (λ k l. entry-held (sums-of-pairs p) (count s - 63) (plus-pairs x) (sums-hold p) k (omega (arith, places p)))
           (λ k l. entry-held (differences p) (count s - 63) (minus-pairs x) (differences-hold p) k (omega (arith, places p))) (c .before .whole .ensures),
       search needs,

@@ -4,16 +4,19 @@ use mathlib.Core.Bool.{true}
 use Prim.Native.Nat.{_+_, _-_, _≤_}
 use native.Mathlib.Omega.{arith}
 use borrow.Author.Needs.{needs}
+use lib.IntN.{pos}
+use lib.ListN.{getD}
 use mir.Syntax.{w64}
 use mir.Val.{SFits}
 use mir.Facts.{toZ-ofZ}
-use Rattle.find.specs.Held.{entries, PeaksBelow}
+use Rattle.complex.specs.Buffers.{_at_}
+use Rattle.find.specs.PeakSearch.{PeaksBelow}
 use Rattle.find.proofs.Blocks.{none-passed, one-passed}
 use Rattle.find.proofs.finding.highest.Statement.{statement}
 use Rattle.find.proofs.finding.highest.Tie as tie
 
 abbrev Inv-loop : tie.InvT-loop
-Inv-loop bounds n top₀ k₀ top k = (k ≤ n) × PeaksBelow (entries bounds) (λ j. true) n k top
+Inv-loop bounds n top₀ k₀ top k = (k ≤ n) × PeaksBelow (_at_ bounds) (λ j. true) n k top
 
 abbrev μ-loop : tie.MeasureT-loop
 μ-loop bounds n top₀ k₀ top k = n - k
@@ -22,9 +25,10 @@ element-copy-out-t8 : tie.Need-element-copy-out-t8 Inv-loop μ-loop
 element-copy-out-t8 c = omega arith
 
 loop-holds : tie.Need-loop-holds Inv-loop μ-loop
+unfolding _at_
 loop-holds c =
     let s = c .before in
-    let f : SFits w64 (entries (s .args .bounds .now) 0) = search needs in
+    let f : SFits w64 (getD (s .args .bounds .now) 0 (pos 0)) = search needs in
     (omega arith, none-passed _ _ _ _ (s .pre .0) refl (toZ-ofZ f))
 
 mul-t10 : tie.Need-mul-t10 Inv-loop μ-loop
@@ -43,11 +47,12 @@ loop-less : tie.Need-loop-less Inv-loop μ-loop
 loop-less c = omega arith
 
 loop-again : tie.Need-loop-again Inv-loop μ-loop
+unfolding _at_
 loop-again c =
     let l = c .before .before .before .loop in
     let s = c .before .before .before .before .before in
-    let b = entries (s .args .bounds .now) in
-    let f : SFits w64 (b (l .k)) = search needs in
+    let b = _at_ (s .args .bounds .now) in
+    let f : SFits w64 (getD (s .args .bounds .now) (l .k) (pos 0)) = search needs in
     (omega arith, subst (PeaksBelow b (λ j. true) (s .args .n) (l .k + 1)) (sym (c .or-later .ensures)) (one-passed _ _ _ (l .k) (l .top) (omega arith) (l .inv .1) _ (toZ-ofZ f)))
 
 returns : tie.Need-returns Inv-loop μ-loop

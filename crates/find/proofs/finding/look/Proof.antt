@@ -8,9 +8,10 @@ use lib.ListN.{length}
 use mir.Syntax.{w32, w64}
 use mir.Val.{SFits}
 use mir.Facts.{toZ-ofZ}
+use Rattle.complex.specs.Buffers.{_at_}
 use Rattle.complex.proofs.Sizes.{fits-within}
 use Rattle.analyser_parts.proofs.Products.{held}
-use Rattle.find.specs.Held.{PeaksBelow, sizes, size-of}
+use Rattle.find.specs.PeakSearch.{PeaksBelow, sizes, size-of}
 use Rattle.find.proofs.Blocks.{one-passed}
 use Rattle.find.proofs.finding.look.Statement.{statement}
 use Rattle.find.proofs.finding.look.Tie as tie
@@ -54,6 +55,7 @@ loop-less : tie.Need-loop-less Inv-loop μ-loop
 loop-less c = omega arith
 
 loop-again : tie.Need-loop-again Inv-loop μ-loop
+unfolding _at_
 loop-again c =
     let l = c .before .before .before .before .before .loop in
     let s = c .before .before .before .before .before .before in

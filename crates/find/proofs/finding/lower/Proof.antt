@@ -6,7 +6,7 @@ use mir.Syntax.{w32}
 use mir.Val.{SFits, toZ, ofZ}
 use mir.Facts.{toZ-ofZ}
 use Rattle.complex.proofs.Sizes.{fits-within, within-add}
-use Rattle.find.specs.Held.{lowered-of}
+use Rattle.find.specs.PeakSearch.{lowered-of}
 use Rattle.find.proofs.Blocks.{lowered-within}
 use Rattle.find.proofs.finding.lower.Statement.{statement}
 use Rattle.find.proofs.finding.lower.Tie as tie

@@ -6,9 +6,10 @@ use borrow.Author.Needs.{needs}
 use mir.Syntax.{w32}
 use mir.Val.{SFits, toZ}
 use mir.Facts.{toZ-ofZ}
+use Rattle.complex.specs.Buffers.{_at_}
 use Rattle.complex.proofs.Sizes.{fits-within}
 use Rattle.analyser_parts.proofs.Products.{held}
-use Rattle.find.specs.Held.{Covers, lower-of}
+use Rattle.find.specs.PeakSearch.{Covers, lower-of}
 use Rattle.find.proofs.Blocks.{covers-none, covers-more}
 use Rattle.find.proofs.finding.lowest.Statement.{statement}
 use Rattle.find.proofs.finding.lowest.Tie as tie
@@ -55,6 +56,7 @@ loop-less : tie.Need-loop-less Inv-loop μ-loop
 loop-less c = omega arith
 
 loop-again : tie.Need-loop-again Inv-loop μ-loop
+unfolding _at_
 loop-again c =
     let l = c .before .before .before .before .loop in
     let s = c .before .before .before .before .before in

@@ -9,18 +9,18 @@ use lib.ListN.{length, set, length-set}
 use mir.Syntax.{w32}
 use mir.Val.{SFits, toZ, ofZ}
 use mir.Facts.{toZ-ofZ}
-use Rattle.complex.specs.Buffers.{listed, written}
+use Rattle.complex.specs.Buffers.{listed, written, _at_}
 use Rattle.complex.specs.Fits.{Within}
 use Rattle.complex.proofs.Lists.{one-more-written}
 use Rattle.complex.proofs.Sizes.{within-more}
 use Rattle.analyser_parts.proofs.Products.{held}
-use Rattle.find.specs.Held.{entries, four-of}
+use Rattle.find.specs.PeakSearch.{four-of}
 use Rattle.find.proofs.Golay.{kept, read-is, read-within, taken-within}
 use Rattle.find.proofs.finding.pairs.Statement.{statement}
 use Rattle.find.proofs.finding.pairs.Tie as tie
 
 abbrev Inv-loop : tie.InvT-loop
-Inv-loop y₀ t₀ count i₀ y t i = (i ≤ count) × (y ≡ written (listed i (four-of (entries y₀) 32 16 48)) y₀) × (length y ≡ length y₀) × (t ≡ written (listed i (four-of (entries y₀) 32 48 16)) t₀) × (length t ≡ length t₀)
+Inv-loop y₀ t₀ count i₀ y t i = (i ≤ count) × (y ≡ written (listed i (four-of (_at_ y₀) 32 16 48)) y₀) × (length y ≡ length y₀) × (t ≡ written (listed i (four-of (_at_ y₀) 32 48 16)) t₀) × (length t ≡ length t₀)
 
 abbrev μ-loop : tie.MeasureT-loop
 μ-loop y₀ t₀ count i₀ y t i = count - i
@@ -67,24 +67,26 @@ module _ (c : tie.In-loop Inv-loop μ-loop) where
   abbrev start : tie.Start Inv-loop μ-loop
   start = c .before .before
 
-  entry-kept : (k : ℕ) → c .before .loop .i ≤ k → entries (c .before .loop .y) k ≡ entries (start .args .y .now) k
-  entry-kept k l = kept (four-of (entries (start .args .y .now)) 32 16 48) (start .args .y .now) (c .before .loop .i) (c .before .loop .inv .1) k l
+  entry-kept : (k : ℕ) → c .before .loop .i ≤ k → (c .before .loop .y) at k ≡ (start .args .y .now) at k
+  entry-kept k l = kept (four-of (_at_ (start .args .y .now)) 32 16 48) (start .args .y .now) (c .before .loop .i) (c .before .loop .inv .1) k l
 
-  small : (k : ℕ) → c .before .loop .i ≤ k → k < start .args .count + 48 → Within 6400000 (entries (c .before .loop .y) k)
+  small : (k : ℕ) → c .before .loop .i ≤ k → k < start .args .count + 48 → Within 6400000 ((c .before .loop .y) at k)
   small k l g = held (entry-kept k l) (within-more (taken-within 1600000 (start .args .count + 48) (start .args .y .now) (start .pre .3) k g) 6400000 (lit≤ tt))
 
-  entry-is : (k : ℕ) → c .before .loop .i ≤ k → k < start .args .count + 48 → toZ w32 (ofZ w32 (entries (c .before .loop .y) k)) ≡ entries (start .args .y .now) k
+  entry-is : (k : ℕ) → c .before .loop .i ≤ k → k < start .args .count + 48 → toZ w32 (ofZ w32 ((c .before .loop .y) at k)) ≡ (start .args .y .now) at k
   entry-is k l g = read-is (small k l g) ∙ entry-kept k l
 
-  within : (k : ℕ) → c .before .loop .i ≤ k → k < start .args .count + 48 → Within 6400000 (toZ w32 (ofZ w32 (entries (c .before .loop .y) k)))
+  within : (k : ℕ) → c .before .loop .i ≤ k → k < start .args .count + 48 → Within 6400000 (toZ w32 (ofZ w32 ((c .before .loop .y) at k)))
   within k l g = read-within (small k l g)
 
 four-requires : tie.Need-four-requires Inv-loop μ-loop
+unfolding _at_
 four-requires c κs =
     let b = within (c .before .before .before .before) in
     (b _ (omega arith) (omega arith), b _ (omega arith) (omega arith), b _ (omega arith) (omega arith), b _ (omega arith) (omega arith))
 
 four-requires-2 : tie.Need-four-requires-2 Inv-loop μ-loop
+unfolding _at_
 four-requires-2 c κs =
     let b = within (c .before .before .before .before .before) in
     (b _ (omega arith) (omega arith), b _ (omega arith) (omega arith), b _ (omega arith) (omega arith), b _ (omega arith) (omega arith))
@@ -108,6 +110,7 @@ loop-less : tie.Need-loop-less Inv-loop μ-loop
 loop-less c = omega arith
 
 loop-again : tie.Need-loop-again Inv-loop μ-loop
+unfolding _at_
 loop-again c =
     let n = c .before .before .before .before .before .before in
     let l = n .before .loop in
@@ -121,9 +124,9 @@ loop-again c =
     let u = toZ-ofZ f ∙ c .before .four .ensures ∙ (λ t. p t +ℤ q t +ℤ (r t -ℤ s t)) in
     let v = toZ-ofZ g ∙ c .four2 .ensures ∙ (λ t. p t +ℤ q t +ℤ (s t -ℤ r t)) in (
       omega arith,
-      (λ j. set (l .inv .1 j) (l .i) (u j)) ∙ one-more-written (four-of (entries old) 32 16 48) _ (l .i) (omega arith),
+      (λ j. set (l .inv .1 j) (l .i) (u j)) ∙ one-more-written (four-of (_at_ old) 32 16 48) _ (l .i) (omega arith),
       simp length-set (l .inv .2),
-      (λ j. set (l .inv .3 j) (l .i) (v j)) ∙ one-more-written (four-of (entries old) 32 48 16) _ (l .i) (omega arith),
+      (λ j. set (l .inv .3 j) (l .i) (v j)) ∙ one-more-written (four-of (_at_ old) 32 48 16) _ (l .i) (omega arith),
       simp length-set (l .inv .4),
     )
 

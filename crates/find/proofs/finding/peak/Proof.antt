@@ -9,14 +9,15 @@ use lib.ListN.{getD, length, take}
 use mir.Syntax.{w64}
 use mir.Val.{SFits}
 use mir.Facts.{toZ-ofZ}
-use Rattle.complex.specs.Buffers.{listed, value}
+use Rattle.complex.specs.Buffers.{listed, value, _at_}
 use Rattle.complex.specs.Fits.{Bound}
 use Rattle.complex.proofs.Bounds.{bound-listed}
 use Rattle.complex.proofs.Lists.{length-listed, listed-at}
-use Rattle.analyser_parts.specs.Held.{Peaks, primary-sum}
+use Rattle.analyser_parts.specs.Peaks.{Peaks}
+use Rattle.analyser_parts.specs.PartSums.{primary-sum}
 use Rattle.analyser_parts.proofs.Choosing.{peaks-cong, peaks-is}
 use Rattle.find.specs.Finding.{size-from}
-use Rattle.find.specs.Held.{size-of, sizes}
+use Rattle.find.specs.PeakSearch.{size-of, sizes}
 use Rattle.find.proofs.Golay.{primary-within, size-is}
 use Rattle.find.proofs.finding.peak.Statement.{statement}
 use Rattle.find.proofs.finding.peak.Tie as tie
@@ -109,6 +110,7 @@ same-length-2 : tie.Need-same-length-2
 same-length-2 c = search needs
 
 returns : tie.Need-returns
+unfolding _at_
 returns c =
     let r = c .before .strongest in
     let d = c .before .before in

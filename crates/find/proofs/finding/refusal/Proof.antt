@@ -6,7 +6,7 @@ use borrow.Author.Needs.{needs}
 use borrow.Author.Tests.{eq-eqb, ne-eqb, ltb-false}
 use lib.Dec.{ltb}
 use lib.ListN.{length}
-use Rattle.codes.specs.Refusals.{number}
+use Rattle.codes.specs.Refusals.{refusal-number}
 use Rattle.codes.proofs.Tests.{neither}
 use Rattle.analyser_parts.specs.Components.{outside}
 use Rattle.find.specs.Finding.{shortest-recording, longest-recording, find-refusals}
@@ -55,7 +55,7 @@ is-either-shorter-requires c κs = search needs
 
 -- every test but the last has passed
 last : (c : tie.After-is-either-shorter) → let s = c .before .before .before .before .before .before .args in
-    number (find-refusals (s .re .now) (s .im .now) (s .m) (s .n)) ≡ cond (c .is-either-shorter .result) 18 0
+    refusal-number (find-refusals (s .re .now) (s .im .now) (s .m) (s .n)) ≡ cond (c .is-either-shorter .result) 18 0
 last c =
     let e = c .before in
     let d = e .before .before in

@@ -9,7 +9,7 @@ use Rattle.complex.specs.Arithmetic.{_+j_, _⊗_, conj, squared-size}
 use Rattle.complex.specs.Fits.{Both}
 use Rattle.analyser_parts.proofs.Correlations.{one-minus-j-within}
 use Rattle.analyser_parts.proofs.Products.{held}
-use Rattle.find.specs.Held.{size-of}
+use Rattle.find.specs.PeakSearch.{size-of}
 use Rattle.find.proofs.finding.size.Statement.{statement}
 use Rattle.find.proofs.finding.size.Tie as tie
 

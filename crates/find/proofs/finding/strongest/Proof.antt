@@ -4,14 +4,16 @@ use mathlib.Core.Path.{_≡_, refl, _∙_}
 use Prim.Native.Nat.{_+_, _*_, _-_, _/_, _≤_}
 use native.Mathlib.Omega.{arith}
 use borrow.Author.Needs.{needs}
-use lib.ListN.{length}
+use lib.IntN.{pos}
+use lib.ListN.{getD, length}
 use lib.Signed.{leZ}
 use mir.Syntax.{w32, w64}
 use mir.Val.{SFits, toZ, ofZ}
 use mir.Facts.{toZ-ofZ}
+use Rattle.complex.specs.Buffers.{_at_}
 use Rattle.complex.proofs.Sizes.{fits-within}
 use Rattle.analyser_parts.proofs.Products.{held}
-use Rattle.find.specs.Held.{entries, PeaksBelow, sizes, size-of}
+use Rattle.find.specs.PeakSearch.{PeaksBelow, sizes, size-of}
 use Rattle.find.proofs.Blocks.{all-passed, none-passed}
 use Rattle.find.proofs.finding.strongest.Statement.{statement}
 use Rattle.find.proofs.finding.strongest.Tie as tie
@@ -33,6 +35,7 @@ module _ (c : tie.After-size Inv-loop μ-loop) where
   start = c .before .before .before
 
   value-is : toZ w64 (ofZ w64 (c .size .result)) ≡ sizes (start .args .re .now) (start .args .im .now) 0
+  unfolding _at_
   value-is =
       let re = toZ-ofZ {w = w32} (fits-within (start .pre .3 .at 0) tt) in
       let im = toZ-ofZ {w = w32} (fits-within (start .pre .4 .at 0) tt) in
@@ -66,11 +69,12 @@ mul-block-2 : tie.Need-mul-block-2 Inv-loop μ-loop
 mul-block-2 c = omega arith
 
 block-requires : tie.Need-block-requires Inv-loop μ-loop
+unfolding _at_
 block-requires c κs =
     let l = c .before .before in
     let b = l .before .before .before in
     let s = start (b .before) in
-    let f : SFits w64 (entries (b .bounds .result) (l .loop .k)) = search needs in
+    let f : SFits w64 (getD (b .bounds .result) (l .loop .k) (pos 0)) = search needs in
     (omega arith, s .pre .1, s .pre .2, s .pre .3, s .pre .4, (λ i m. rw (toZ-ofZ f) (b .bounds .ensures .each (l .loop .k) (omega arith) i m)), l .loop .inv .1)
 
 add-k : tie.Need-add-k Inv-loop μ-loop

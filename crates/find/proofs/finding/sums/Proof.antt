@@ -9,17 +9,17 @@ use lib.ListN.{length, set, length-set}
 use mir.Syntax.{w32}
 use mir.Val.{SFits, toZ, ofZ}
 use mir.Facts.{toZ-ofZ}
-use Rattle.complex.specs.Buffers.{listed, written}
+use Rattle.complex.specs.Buffers.{listed, written, _at_}
 use Rattle.complex.specs.Fits.{Within}
 use Rattle.complex.proofs.Lists.{one-more-written}
 use Rattle.complex.proofs.Sizes.{within-more}
-use Rattle.find.specs.Held.{entries, four-of}
+use Rattle.find.specs.PeakSearch.{four-of}
 use Rattle.find.proofs.Golay.{read-is, read-within}
 use Rattle.find.proofs.finding.sums.Statement.{statement}
 use Rattle.find.proofs.finding.sums.Tie as tie
 
 abbrev Inv-loop : tie.InvT-loop
-Inv-loop x a b c y₀ count i₀ y i = (i ≤ count) × (y ≡ written (listed i (four-of (entries x) a b c)) y₀) × (length y ≡ length y₀)
+Inv-loop x a b c y₀ count i₀ y i = (i ≤ count) × (y ≡ written (listed i (four-of (_at_ x) a b c)) y₀) × (length y ≡ length y₀)
 
 abbrev μ-loop : tie.MeasureT-loop
 μ-loop x a b c y₀ count i₀ y i = count - i
@@ -61,10 +61,12 @@ mul-four-4 c = omega arith
 shared-slice-copy-out-four-4 : tie.Need-shared-slice-copy-out-four-4 Inv-loop μ-loop
 shared-slice-copy-out-four-4 c = omega arith
 
-entry-within : (c : tie.Start Inv-loop μ-loop) (k : ℕ) → Within 6400000 (entries (c .args .x .now) k)
+entry-within : (c : tie.Start Inv-loop μ-loop) (k : ℕ) → Within 6400000 ((c .args .x .now) at k)
+unfolding _at_
 entry-within c k = within-more (c .pre .5 .at k) 6400000 (lit≤ tt)
 
 four-requires : tie.Need-four-requires Inv-loop μ-loop
+unfolding _at_
 four-requires c κs =
     let h = entry-within (c .before .before .before .before .before .before) in
     (read-within (h _), read-within (h _), read-within (h _), read-within (h _))
@@ -82,14 +84,15 @@ loop-less : tie.Need-loop-less Inv-loop μ-loop
 loop-less c = omega arith
 
 loop-again : tie.Need-loop-again Inv-loop μ-loop
+unfolding _at_
 loop-again c =
     let l = c .before .before .before .before .before .before .loop in
     let s = c .before .before .before .before .before .before .before in
     let a = s .args in
-    let e : (k : ℕ) → toZ w32 (ofZ w32 (entries (a .x .now) k)) ≡ entries (a .x .now) k = λ k. read-is (entry-within s k) in
+    let e : (k : ℕ) → toZ w32 (ofZ w32 ((a .x .now) at k)) ≡ (a .x .now) at k = λ k. read-is (entry-within s k) in
     let f : SFits w32 (c .four .result) = search needs in (
       omega arith,
-      (λ j. set (l .inv .1 j) (l .i) ((toZ-ofZ f ∙ c .four .ensures ∙ (λ t. e (l .i) t +ℤ e (l .i + a .a) t +ℤ (e (l .i + a .b) t -ℤ e (l .i + a .c) t))) j)) ∙ one-more-written (four-of (entries (a .x .now)) (a .a) (a .b) (a .c)) _ (l .i) (omega arith),
+      (λ j. set (l .inv .1 j) (l .i) ((toZ-ofZ f ∙ c .four .ensures ∙ (λ t. e (l .i) t +ℤ e (l .i + a .a) t +ℤ (e (l .i + a .b) t -ℤ e (l .i + a .c) t))) j)) ∙ one-more-written (four-of (_at_ (a .x .now)) (a .a) (a .b) (a .c)) _ (l .i) (omega arith),
       simp length-set (l .inv .2),
     )
 

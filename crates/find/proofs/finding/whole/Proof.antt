@@ -8,17 +8,16 @@ use lib.ListN.{length, set, length-set}
 use mir.Syntax.{w32}
 use mir.Val.{SFits}
 use mir.Facts.{toZ-ofZ}
-use Rattle.complex.specs.Buffers.{listed, written}
+use Rattle.complex.specs.Buffers.{listed, written, _at_}
 use Rattle.complex.specs.Fits.{Within}
 use Rattle.complex.proofs.Lists.{one-more-written}
 use Rattle.analyser_parts.proofs.Products.{held}
-use Rattle.find.specs.Held.{entries}
 use Rattle.find.proofs.Golay.{kept, read-is, read-within, taken-within, whole-of}
 use Rattle.find.proofs.finding.whole.Statement.{statement}
 use Rattle.find.proofs.finding.whole.Tie as tie
 
 abbrev Inv-loop : tie.InvT-loop
-Inv-loop y₀ t count i₀ y i = (i ≤ count) × (y ≡ written (listed i (whole-of (entries y₀) (entries t))) y₀) × (length y ≡ length y₀)
+Inv-loop y₀ t count i₀ y i = (i ≤ count) × (y ≡ written (listed i (whole-of (_at_ y₀) (_at_ t))) y₀) × (length y ≡ length y₀)
 
 abbrev μ-loop : tie.MeasureT-loop
 μ-loop y₀ t count i₀ y i = count - i
@@ -65,16 +64,17 @@ module _ (c : tie.In-loop Inv-loop μ-loop) where
   abbrev start : tie.Start Inv-loop μ-loop
   start = c .before .before
 
-  entry-kept : (k : ℕ) → c .before .loop .i ≤ k → entries (c .before .loop .y) k ≡ entries (start .args .y .now) k
-  entry-kept k l = kept (whole-of (entries (start .args .y .now)) (entries (start .args .t .now))) (start .args .y .now) (c .before .loop .i) (c .before .loop .inv .1) k l
+  entry-kept : (k : ℕ) → c .before .loop .i ≤ k → (c .before .loop .y) at k ≡ (start .args .y .now) at k
+  entry-kept k l = kept (whole-of (_at_ (start .args .y .now)) (_at_ (start .args .t .now))) (start .args .y .now) (c .before .loop .i) (c .before .loop .inv .1) k l
 
-  y-small : (k : ℕ) → c .before .loop .i ≤ k → k < start .args .count + 192 → Within 6400000 (entries (c .before .loop .y) k)
+  y-small : (k : ℕ) → c .before .loop .i ≤ k → k < start .args .count + 192 → Within 6400000 ((c .before .loop .y) at k)
   y-small k l g = held (entry-kept k l) (taken-within 6400000 (start .args .count + 192) (start .args .y .now) (start .pre .3) k g)
 
-  t-small : (k : ℕ) → k < start .args .count + 192 → Within 6400000 (entries (start .args .t .now) k)
+  t-small : (k : ℕ) → k < start .args .count + 192 → Within 6400000 ((start .args .t .now) at k)
   t-small k g = taken-within 6400000 (start .args .count + 192) (start .args .t .now) (start .pre .4) k g
 
 four-requires : tie.Need-four-requires Inv-loop μ-loop
+unfolding _at_
 four-requires c κs =
     let n = c .before .before .before .before in
     let i = n .before .loop .i in
@@ -97,6 +97,7 @@ loop-less : tie.Need-loop-less Inv-loop μ-loop
 loop-less c = omega arith
 
 loop-again : tie.Need-loop-again Inv-loop μ-loop
+unfolding _at_
 loop-again c =
     let n = c .before .before .before .before .before in
     let l = n .before .loop in
@@ -108,7 +109,7 @@ loop-again c =
     let f : SFits w32 (c .four .result) = search needs in
     let sum = toZ-ofZ f ∙ c .four .ensures ∙ (λ t. p t +ℤ q t +ℤ (r t -ℤ s t)) in (
       omega arith,
-      (λ j. set (l .inv .1 j) (l .i) (sum j)) ∙ one-more-written (whole-of (entries (a .y .now)) (entries (a .t .now))) _ (l .i) (omega arith),
+      (λ j. set (l .inv .1 j) (l .i) (sum j)) ∙ one-more-written (whole-of (_at_ (a .y .now)) (_at_ (a .t .now))) _ (l .i) (omega arith),
       simp length-set (l .inv .2),
     )
 

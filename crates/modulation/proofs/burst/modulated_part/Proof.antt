@@ -6,9 +6,9 @@ use lib.IntN.{ℤ, _*ℤ_}
 use Rattle.complex.specs.Fits.{Within}
 use Rattle.complex.proofs.Ring.{by-components, real-⊗}
 use Rattle.complex.proofs.Stored.{Is, held, given, stored, fits, times}
-use Rattle.codes.specs.Held.{sign-bit, secondary-row}
+use Rattle.codes.specs.PackedSigns.{sign-bit, secondary-row}
 use Rattle.codes.proofs.Rows.{sign-within}
-use Rattle.modulation.specs.Held.{modulated-part}
+use Rattle.modulation.specs.SixteenChips.{modulated-part}
 use Rattle.modulation.proofs.burst.modulated_part.Statement.{statement}
 use Rattle.modulation.proofs.burst.modulated_part.Tie as tie
 

@@ -4,7 +4,7 @@ use borrow.Author.Needs.{needs}
 use Rattle.complex.specs.Arithmetic.{_⊕_}
 use Rattle.complex.specs.Fits.{Fits32}
 use Rattle.complex.proofs.Components.{both-⊕, both-fits}
-use Rattle.modulation.specs.Held.{modulated-part, modulated-parts}
+use Rattle.modulation.specs.SixteenChips.{modulated-part, modulated-parts}
 use Rattle.modulation.proofs.BurstParts.{modulated-both, modulated-parts-both}
 use Rattle.modulation.proofs.burst.modulated_parts.Statement.{statement}
 use Rattle.modulation.proofs.burst.modulated_parts.Tie as tie

@@ -10,14 +10,14 @@ use Rattle.complex.specs.declared.Complex.{Complex}
 use Rattle.complex.specs.Arithmetic.{_+j_, real, _⊗_}
 use Rattle.complex.specs.Fits.{Both}
 use Rattle.complex.proofs.Stored.{Is, held, number, stored, fits, within, times}
-use Rattle.codes.specs.Signs.{_at_}
+use Rattle.complex.specs.Buffers.{_at_}
 use Rattle.codes.specs.declared.Allocated.{Allocated}
 use Rattle.codes.specs.SyncCodes.{a-signs}
 use Rattle.codes.specs.Allocation.{allocation}
 use Rattle.codes.specs.Burst.{burst}
 use Rattle.codes.proofs.Rows.{row-within, a-signs-test}
 use Rattle.codes.proofs.Allocations.{AllKnown, allocation-known}
-use Rattle.modulation.specs.Held.{modulated-parts, part-chip}
+use Rattle.modulation.specs.SixteenChips.{modulated-parts, part-chip}
 use Rattle.modulation.proofs.BurstParts.{small-units, gained-both, burst-parts, modulated-parts-both}
 use Rattle.modulation.proofs.Blocks.{Filled, filled-none, filled-more, filled-all, block-cong}
 use Rattle.modulation.proofs.burst.part.Statement.{statement}
@@ -51,14 +51,14 @@ module _ (c : tie.After-modulated-parts Inv-loop μ-loop) where
   abbrev start : tie.Start Inv-loop μ-loop
   start = c .before .before .before
 
-  abbrev sent : Allocated
-  sent = let s = start .args in allocation (s .case) (s .group .0) (s .frame) (s .half)
+  abbrev allocated-codes : Allocated
+  allocated-codes = let s = start .args in allocation (s .case) (s .group .0) (s .frame) (s .half)
 
   abbrev t : Complex
-  t = modulated-parts sent (start .args .m)
+  t = modulated-parts allocated-codes (start .args .m)
 
   t-both : Both 3 t
-  t-both = modulated-parts-both sent (small-units sent (allocation-known _ _ _ _)) _
+  t-both = modulated-parts-both allocated-codes (small-units allocated-codes (allocation-known _ _ _ _)) _
 
   t-is : c .modulated-parts .result ≡ t
   t-is = c .modulated-parts .ensures ∙ ap (λ (s : Allocated). modulated-parts s (start .args .m)) (c .before .allocated .ensures)

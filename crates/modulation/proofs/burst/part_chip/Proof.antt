@@ -5,7 +5,7 @@ use lib.IntN.{ℤ, _+ℤ_, _*ℤ_}
 use Rattle.complex.specs.Fits.{Within}
 use Rattle.complex.proofs.Ring.{by-components}
 use Rattle.complex.proofs.Stored.{Is, held, given, stored, fits, plus, times}
-use Rattle.codes.specs.Signs.{_at_}
+use Rattle.complex.specs.Buffers.{_at_}
 use Rattle.codes.specs.SyncCodes.{a, b}
 use Rattle.codes.proofs.Rows.{row-within, a-test, b-test}
 use Rattle.modulation.proofs.BurstParts.{part-chip-is}

@@ -5,30 +5,30 @@ use mathlib.Core.List.{List}
 use borrow.Author.Needs.{needs}
 use lib.IntN.{ℤ}
 use Rattle.complex.specs.Buffers.{listed}
-use Rattle.modulation.specs.Held.{spread, turned, spread-row}
+use Rattle.modulation.specs.SixteenChips.{summed, scrambled, summed-row}
 use Rattle.modulation.proofs.Blocks.{symbols-bound}
-use Rattle.modulation.proofs.Turns.{turned-bound}
+use Rattle.modulation.proofs.SignPairs.{scrambled-bound}
 use Rattle.modulation.proofs.data.block.Statement.{statement}
 use Rattle.modulation.proofs.data.block.Tie as tie
 
-spread-requires : tie.Need-spread-requires
-spread-requires c κs = (c .before .before .before .pre .1, symbols-bound _ true (c .before .before .symbols .ensures))
+summed-requires : tie.Need-summed-requires
+summed-requires c κs = (c .before .before .before .pre .1, symbols-bound _ true (c .before .before .symbols .ensures))
 
-spread-requires-2 : tie.Need-spread-requires-2
-spread-requires-2 c κs = (c .before .before .before .before .before .pre .1, symbols-bound _ false (c .before .before .before .symbols2 .ensures))
+summed-requires-2 : tie.Need-summed-requires-2
+summed-requires-2 c κs = (c .before .before .before .before .before .pre .1, symbols-bound _ false (c .before .before .before .symbols2 .ensures))
 
 returns : tie.Need-returns
 returns c =
     let a = c .before .before .before .before .before .before .before .before .before .before .before .before .args in
-    let x = c .before .before .before .before .before .before .before .before .spread .ensures in
-    let y = c .before .before .before .before .before .before .spread2 .ensures in
-    let t = c .before .before .before .turned .ensures in
-    let u = c .turned2 .ensures in
+    let x = c .before .before .before .before .before .before .before .before .summed .ensures in
+    let y = c .before .before .before .before .before .before .summed2 .ensures in
+    let t = c .before .before .before .scrambled .ensures in
+    let u = c .scrambled2 .ensures in
     let p = c .before .before .before .before .before .before .before .before .before .before .before .before .pre in
-    let x-is : _ ≡ spread-row (a .gains .now) (a .pairs .now) (a .from) true = x .0 ∙ ap (λ (s : List ℤ). listed 16 (spread (a .gains .now) s)) (c .before .before .before .before .before .before .before .before .before .before .before .symbols .ensures) in
-    let y-is : _ ≡ spread-row (a .gains .now) (a .pairs .now) (a .from) false = y .0 ∙ ap (λ (s : List ℤ). listed 16 (spread (a .gains .now) s)) (c .before .before .before .before .before .before .before .before .before .before .symbols2 .ensures) in (
-      λ j. record { re = (t ∙ ap₂ (λ (y x : List ℤ). listed 16 (turned (a .tre .now) y x)) y-is x-is) j; im = (u ∙ ap₂ (λ (x y : List ℤ). listed 16 (turned (a .tim .now) x y)) x-is y-is) j },
-      (turned-bound (p .2) (y .1) (x .1) t, turned-bound (p .3) (x .1) (y .1) u),
+    let x-is : _ ≡ summed-row (a .gains .now) (a .pairs .now) (a .from) true = x .0 ∙ ap (λ (s : List ℤ). listed 16 (summed (a .gains .now) s)) (c .before .before .before .before .before .before .before .before .before .before .before .symbols .ensures) in
+    let y-is : _ ≡ summed-row (a .gains .now) (a .pairs .now) (a .from) false = y .0 ∙ ap (λ (s : List ℤ). listed 16 (summed (a .gains .now) s)) (c .before .before .before .before .before .before .before .before .before .before .symbols2 .ensures) in (
+      λ j. record { re = (t ∙ ap₂ (λ (y x : List ℤ). listed 16 (scrambled (a .tre .now) y x)) y-is x-is) j; im = (u ∙ ap₂ (λ (x y : List ℤ). listed 16 (scrambled (a .tim .now) x y)) x-is y-is) j },
+      (scrambled-bound (p .2) (y .1) (x .1) t, scrambled-bound (p .3) (x .1) (y .1) u),
     )
 
 pub block-spec : {M : Type 1} → statement M
@@ -37,8 +37,8 @@ block-spec =
     (tie.spec
     (λ c κs. search needs)
     (λ c κs. search needs)
-    spread-requires
-    spread-requires-2
+    summed-requires
+    summed-requires-2
     (λ c κs. search needs)
     (λ c κs. search needs)
     returns)

@@ -2,7 +2,7 @@
 use Prim.Native.Nat.{_-_}
 use native.Mathlib.Omega.{arith}
 use borrow.Author.Needs.{needs}
-use Rattle.modulation.specs.Held.{raised}
+use Rattle.modulation.specs.SixteenChips.{raised}
 use Rattle.modulation.proofs.Blocks.{Row, row-none, row-more, row-all}
 use Rattle.modulation.proofs.data.raised.Statement.{statement}
 use Rattle.modulation.proofs.data.raised.Tie as tie

@@ -6,7 +6,7 @@ use borrow.Author.Needs.{needs}
 use mir.Syntax.{w32}
 use mir.Val.{SFits}
 use mir.Facts.{toZ-ofZ}
-use Rattle.modulation.specs.Held.{raised}
+use Rattle.modulation.specs.SixteenChips.{raised}
 use Rattle.codes.proofs.Factors.{last-factor}
 use Rattle.modulation.proofs.data.raised_entry.Statement.{statement}
 use Rattle.modulation.proofs.data.raised_entry.Tie as tie

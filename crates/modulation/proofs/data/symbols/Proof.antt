@@ -5,7 +5,7 @@ use native.Mathlib.Omega.{arith}
 use borrow.Author.Needs.{needs}
 use lib.ListN.{getD}
 use Rattle.complex.specs.declared.Complex.{Complex}
-use Rattle.modulation.specs.Held.{component}
+use Rattle.modulation.specs.SixteenChips.{component}
 use Rattle.modulation.specs.Symbols.{symbol}
 use Rattle.modulation.proofs.Blocks.{Row, row-none, row-more, row-all}
 use Rattle.modulation.proofs.data.symbols.Statement.{statement}

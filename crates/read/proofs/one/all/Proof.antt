@@ -9,7 +9,7 @@ use Rattle.complex.specs.declared.Complex.{Complex}
 use Rattle.complex.specs.Arithmetic.{_⊗_}
 use Rattle.complex.specs.Buffers.{listed, value, written}
 use Rattle.complex.proofs.Lists.{listed-cong}
-use Rattle.read.proofs.Turns.{turns, reading-one}
+use Rattle.read.proofs.PowersOfJ.{powers-of-j, reading-one}
 use Rattle.read.proofs.one.all.Statement.{statement}
 use Rattle.read.proofs.one.all.Tie as tie
 
@@ -22,8 +22,8 @@ Inv-loop k re im outre₀ outim₀ wre wim m₀ m-end outre outim m =
 abbrev μ-loop : tie.MeasureT-loop
 μ-loop k re im outre₀ outim₀ wre wim m₀ m-end outre outim m = m-end - m
 
-weights-requires : tie.Need-weights-requires Inv-loop μ-loop
-weights-requires c κs = omega arith
+multipliers-requires : tie.Need-multipliers-requires Inv-loop μ-loop
+multipliers-requires c κs = omega arith
 
 loop-holds : tie.Need-loop-holds Inv-loop μ-loop
 unfolding listed
@@ -38,7 +38,7 @@ sixteen-products-requires c κs =
     let s = w .before in (
       omega arith,
       omega arith,
-      turns (s .args .cell .0) (s .args .k) (s .pre .0 .0) (s .pre .0 .1) (w .weights .ensures .0) (w .weights .ensures .1),
+      powers-of-j (s .args .cell .0) (s .args .k) (s .pre .0 .0) (s .pre .0 .1) (w .multipliers .ensures .0) (w .multipliers .ensures .1),
       s .pre .1 .0,
       s .pre .1 .1,
     )
@@ -74,7 +74,7 @@ loop-again c =
     let p = c .before .before .before .before .before in
     let b = c .before .before .before .before .before .before .before .before .before .before .sixteen-products in
     let l = c .before .before .before .before .before .before .before .before .before .before .before .before .before .before .loop in
-    let w = c .before .before .before .before .before .before .before .before .before .before .before .before .before .before .before .before .before .weights .result in
+    let w = c .before .before .before .before .before .before .before .before .before .before .before .before .before .before .before .before .before .multipliers .result in
     let s = c .before .before .before .before .before .before .before .before .before .before .before .before .before .before .before .before .before .before .args in
     let chip = value (s .re .now) (s .im .now) in
     let f : ℕ → ℕ → Complex = λ n i. chip n ⊗ value (w .re) (w .im) i in (
@@ -98,7 +98,7 @@ returns c =
     let s = w .before in
     let chip = value (s .args .re .now) (s .args .im .now) in
     let e : 16 * l .m ≡ length (s .args .re .now) = omega (arith, s .pre .0 .4) in
-    let r = reading-one (s .args .cell .0) (s .args .k) (s .pre .0 .0) (s .pre .0 .1) (w .weights .ensures .0) (w .weights .ensures .1) chip in (
+    let r = reading-one (s .args .cell .0) (s .args .k) (s .pre .0 .0) (s .pre .0 .1) (w .multipliers .ensures .0) (w .multipliers .ensures .1) chip in (
       l .inv .3 ∙ (λ j. written (listed (e j) (λ n. r n j .re)) (s .args .outre .now)),
       l .inv .4 ∙ (λ j. written (listed (e j) (λ n. r n j .im)) (s .args .outim .now)),
     )
@@ -109,7 +109,7 @@ all-spec =
     (tie.spec
     Inv-loop
     μ-loop
-    weights-requires
+    multipliers-requires
     loop-holds
     mul-sixteen-products
     sixteen-products-requires

@@ -7,9 +7,9 @@ use mir.Val.{SFits, toZ, ofZ}
 use mir.Facts.{toZ-ofZ}
 use Rattle.complex.specs.Arithmetic.{_+j_}
 use Rattle.complex.proofs.Sizes.{fits-within}
-use Rattle.read.specs.Held.{is-sign}
+use Rattle.read.specs.Multipliers.{is-sign}
 use Rattle.read.proofs.Lanes.{sign-within}
-use Rattle.read.proofs.Turns.{minus-is, plus-is, product-is, arranged-both}
+use Rattle.read.proofs.PowersOfJ.{minus-is, plus-is, product-is, arranged-both}
 use Rattle.read.proofs.one.product.Statement.{statement}
 use Rattle.read.proofs.one.product.Tie as tie
 

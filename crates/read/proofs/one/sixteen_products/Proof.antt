@@ -42,7 +42,7 @@ product-requires : tie.Need-product-requires Inv-loop μ-loop
 product-requires c κs =
     let v = c .before .before .before in
     let p = v .before .before .before .pre in
-    (rw (c .value-at2 .ensures) (p .2 .at (v .before .before .loop .i) (omega arith)), rw (v .value-at .ensures) (value-both (p .3) (p .4) _))
+    (rw (c .value-at2 .ensures) (p .2 .each (v .before .before .loop .i) (omega arith)), rw (v .value-at .ensures) (value-both (p .3) (p .4) _))
 
 mul-x : tie.Need-mul-x Inv-loop μ-loop
 mul-x c = omega arith

@@ -14,17 +14,17 @@ use Rattle.complex.specs.Buffers.{listed, value, written}
 use Rattle.complex.proofs.Lists.{one-more-written}
 use Rattle.complex.proofs.Bounds.{bound-listed}
 use Rattle.codes.proofs.Factors.{factor-range}
-use Rattle.read.specs.Held.{weighed}
+use Rattle.read.specs.Multipliers.{multiplied-sum}
 use Rattle.read.specs.Reading.{reading}
-use Rattle.read.proofs.Readings.{weight-both, reading-is}
+use Rattle.read.proofs.Readings.{multiplier-both, reading-is}
 use Rattle.read.proofs.reading.by_products.Statement.{statement}
 use Rattle.read.proofs.reading.by_products.Tie as tie
 
 abbrev Inv-loop : tie.InvT-loop
 Inv-loop q k re im outre₀ outim₀ wre wim step n₀ n-end outre outim n =
     (n ≤ n-end) × (length outre ≡ length outre₀) × (length outim ≡ length outim₀)
-    × (outre ≡ written (listed n (λ m. weighed (value re im) (value wre wim) (m * step) step .re)) outre₀)
-    × (outim ≡ written (listed n (λ m. weighed (value re im) (value wre wim) (m * step) step .im)) outim₀)
+    × (outre ≡ written (listed n (λ m. multiplied-sum (value re im) (value wre wim) (m * step) step .re)) outre₀)
+    × (outim ≡ written (listed n (λ m. multiplied-sum (value re im) (value wre wim) (m * step) step .im)) outim₀)
 
 abbrev μ-loop : tie.MeasureT-loop
 μ-loop q k re im outre₀ outim₀ wre wim step n₀ n-end outre outim n = n-end - n
@@ -40,8 +40,8 @@ inside c =
     let h : c .before .loop .n + 1 ≤ length (s .re .now) / s .q = omega arith in
     omega (arith, mul-le-mul-right (s .q) h, div-add-mod' (length (s .re .now)) (s .q))
 
-weights-requires : tie.Need-weights-requires Inv-loop μ-loop
-weights-requires c κs = factor c .0
+multipliers-requires : tie.Need-multipliers-requires Inv-loop μ-loop
+multipliers-requires c κs = factor c .0
 
 div-n-end : tie.Need-div-n-end Inv-loop μ-loop
 div-n-end c = factor (c .before .before .before) .0
@@ -57,9 +57,9 @@ reading-requires : tie.Need-reading-requires Inv-loop μ-loop
 reading-requires c κs =
     let s = c .before .before .before .before .before .before .before in
     let h = inside (c .before .before) in
-    let w = c .before .before .before .before .before .before .weights in
-    let wre : Bound 1 (w .result .re) = rw (w .ensures .0) (bound-listed 1 16 _ (λ i. weight-both _ _ _ i .re)) in
-    let wim : Bound 1 (w .result .im) = rw (w .ensures .1) (bound-listed 1 16 _ (λ i. weight-both _ _ _ i .im)) in
+    let w = c .before .before .before .before .before .before .multipliers in
+    let wre : Bound 1 (w .result .re) = rw (w .ensures .0) (bound-listed 1 16 _ (λ i. multiplier-both _ _ _ i .re)) in
+    let wim : Bound 1 (w .result .im) = rw (w .ensures .1) (bound-listed 1 16 _ (λ i. multiplier-both _ _ _ i .im)) in
     ((h, omega (arith, h), omega arith, factor s .1), (s .pre .1 .0, s .pre .1 .1, wre, wim))
 
 mul-a : tie.Need-mul-a Inv-loop μ-loop
@@ -99,14 +99,14 @@ same-length c = c .before .loop .inv .1
 same-length-2 : tie.Need-same-length-2 Inv-loop μ-loop
 same-length-2 c = c .before .loop .inv .2
 
--- the sums with the weights are the readings
-readings : (c : tie.After-weights Inv-loop μ-loop) → let s = c .before .args in
-    _≡_ {A = ℕ → Complex} (λ m. weighed (value (s .re .now) (s .im .now)) (value (c .weights .result .re) (c .weights .result .im)) (m * s .q) (s .q))
+-- the sums with the multipliers are the readings
+readings : (c : tie.After-multipliers Inv-loop μ-loop) → let s = c .before .args in
+    _≡_ {A = ℕ → Complex} (λ m. multiplied-sum (value (s .re .now) (s .im .now)) (value (c .multipliers .result .re) (c .multipliers .result .im)) (m * s .q) (s .q))
     (reading (s .cell .0) (s .q) (s .k) (value (s .re .now) (s .im .now)))
 readings c =
     let s = c .before .args in
     let chip = value (s .re .now) (s .im .now) in
-    λ j m. (ap₂ (λ a b. weighed chip (value a b) (m * s .q) (s .q)) (c .weights .ensures .0) (c .weights .ensures .1)
+    λ j m. (ap₂ (λ a b. multiplied-sum chip (value a b) (m * s .q) (s .q)) (c .multipliers .ensures .0) (c .multipliers .ensures .1)
     ∙ reading-is (s .cell .0) (s .q) (s .k) (c .before .pre .0 .0) chip m) j
 
 returns : tie.Need-returns Inv-loop μ-loop
@@ -125,7 +125,7 @@ by-products-spec =
     (tie.spec
     Inv-loop
     μ-loop
-    weights-requires
+    multipliers-requires
     div-n-end
     loop-holds
     mul-reading

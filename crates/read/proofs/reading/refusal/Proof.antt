@@ -5,7 +5,7 @@ use borrow.Author.Needs.{needs}
 use borrow.Author.Tests.{le-leb, lt-leb, eq-eqb, ne-eqb}
 use mathlib.Core.List.{List}
 use lib.ListN.{length, drop}
-use Rattle.codes.specs.Refusals.{Refusal, number}
+use Rattle.codes.specs.Refusals.{Refusal, refusal-number}
 use Rattle.codes.specs.Tree.{is-spreading-factor}
 use Rattle.codes.proofs.Leaves.{no-width, some-width}
 use Rattle.read.specs.Reading.{read-refusals}
@@ -40,7 +40,7 @@ module _ (c : tie.Else3) where
   abbrev before-12 : tie.Start
   before-12 = c .before .before .before .before .before
 
-  passed-4 : number (refusals before-12) ≡ number (drop 3 (refusals before-12))
+  passed-4 : refusal-number (refusals before-12) ≡ refusal-number (drop 3 (refusals before-12))
   passed-4 =
       let s = before-12 .args in
       rw (lt-leb 128 (s .cell .0) (c .before .before .before .if1 .left), factor (c .before), lt-leb (s .q) (s .k) (c .if3 .left))
@@ -49,7 +49,7 @@ returns-4 : tie.Need-returns-4
 returns-4 c = let s = before-12 (c .before) .args in sym (passed-4 (c .before) ∙ rw (ne-eqb (length (s .re .now)) (length (s .im .now)) (c .if4 .taken)))
 
 -- so has 12
-passed-12 : (c : tie.Else4) → let s = before-12 (c .before) in number (refusals s) ≡ number (drop 4 (refusals s))
+passed-12 : (c : tie.Else4) → let s = before-12 (c .before) in refusal-number (refusals s) ≡ refusal-number (drop 4 (refusals s))
 passed-12 c = let s = before-12 (c .before) .args in passed-4 (c .before) ∙ rw (eq-eqb (length (s .re .now)) (length (s .im .now)) (c .if4 .left))
 
 is-no-field-requires : tie.Need-is-no-field-requires
@@ -59,7 +59,7 @@ returns-5 : tie.Need-returns-5
 returns-5 c = sym (passed-12 (c .before .before) ∙ rw (sym (c .before .is-no-field .ensures) ∙ c .if5 .taken))
 
 -- so has 16
-passed-16 : (c : tie.Else5) → let s = before-12 (c .before .before .before) in number (refusals s) ≡ number (drop 5 (refusals s))
+passed-16 : (c : tie.Else5) → let s = before-12 (c .before .before .before) in refusal-number (refusals s) ≡ refusal-number (drop 5 (refusals s))
 passed-16 c = passed-12 (c .before .before) ∙ rw (sym (c .before .is-no-field .ensures) ∙ c .if5 .left)
 
 either-outside-requires : tie.Need-either-outside-requires
@@ -69,7 +69,7 @@ returns-6 : tie.Need-returns-6
 returns-6 c = sym (passed-16 (c .before .before) ∙ rw (sym (c .before .either-outside .ensures) ∙ c .if6 .taken))
 
 -- so has 17
-passed-17 : (c : tie.Else6) → let s = before-12 (c .before .before .before .before .before) in number (refusals s) ≡ number (drop 6 (refusals s))
+passed-17 : (c : tie.Else6) → let s = before-12 (c .before .before .before .before .before) in refusal-number (refusals s) ≡ refusal-number (drop 6 (refusals s))
 passed-17 c = passed-16 (c .before .before) ∙ rw (sym (c .before .either-outside .ensures) ∙ c .if6 .left)
 
 div-is-either-shorter : tie.Need-div-is-either-shorter

@@ -7,11 +7,11 @@ use mathlib.Core.List.{List}
 use lib.IntN.{ℤ}
 use lib.ListN.{length}
 use Rattle.complex.specs.declared.Complex.{Complex}
-use Rattle.complex.specs.Buffers.{value, written}
+use Rattle.complex.specs.Buffers.{value, written, _at_}
 use Rattle.complex.specs.Fits.{Both}
 use Rattle.complex.proofs.Bounds.{value-both}
 use Rattle.complex.proofs.Lists.{listed-cong}
-use Rattle.read.specs.Held.{entry, joined, lanes-of}
+use Rattle.read.specs.Multipliers.{from-lanes, lanes-of}
 use Rattle.read.specs.Reading.{reading}
 use Rattle.read.proofs.Lanes.{signs-are, lane-both, value-written, readings-are}
 use Rattle.read.proofs.sixteen.all.Statement.{statement}
@@ -40,22 +40,22 @@ module _ (c : tie.After-put-all-lanes) where
   abbrev put : ℕ → Complex
   put = value (c .put-all-lanes .last .1 .1 .1 .0) (c .put-all-lanes .last .1 .1 .1 .1 .0)
 
-  put-is : (x : ℕ) → x < 4 * (length (s .args .re .now) / 16) → put x ≡ lanes-of (entry (a .signs .result)) chip x
+  put-is : (x : ℕ) → x < 4 * (length (s .args .re .now) / 16) → put x ≡ lanes-of (_at_ (a .signs .result)) chip x
   put-is x l =
       (λ j. value (c .put-all-lanes .ensures .0 j) (c .put-all-lanes .ensures .1 j) x)
-      ∙ value-written (lanes-of (entry (a .signs .result)) chip) _ _ (4 * (length (s .args .re .now) / 16)) x l
+      ∙ value-written (lanes-of (_at_ (a .signs .result)) chip) _ _ (4 * (length (s .args .re .now) / 16)) x l
 
   put-both : (x : ℕ) → x < 4 * (length (s .args .re .now) / 16) → Both 400000 (put x)
   put-both x l =
       subst (Both 400000) (sym (put-is x l))
-      (lane-both (entry (a .signs .result)) chip (signs-are _ _ (a .signs .ensures) (s .pre .0 .0) (s .pre .0 .1) .at)
+      (lane-both (_at_ (a .signs .result)) chip (signs-are _ _ (a .signs .ensures) (s .pre .0 .0) (s .pre .0 .1) .each)
       (value-both (s .pre .1 .0) (s .pre .1 .1)) (16 * (x / 4)) (x % 4) (omega arith))
 
-  readings : (m : ℕ) → m < length (s .args .re .now) / 16 → joined put m ≡ reading (s .args .cell .0) 16 (s .args .k) chip m
+  readings : (m : ℕ) → m < length (s .args .re .now) / 16 → from-lanes put m ≡ reading (s .args .cell .0) 16 (s .args .k) chip m
   readings = readings-are (s .args .cell .0) (s .args .k) (a .signs .ensures) chip put (length (s .args .re .now) / 16) put-is
 
-join-all-requires : tie.Need-join-all-requires
-join-all-requires c κs =
+all-from-lanes-requires : tie.Need-all-from-lanes-requires
+all-from-lanes-requires c κs =
     let p = c .before .before .before .before in
     let h = s p .pre .0 in
     (omega arith, h .4, h .5, put-both p)
@@ -69,7 +69,7 @@ same-length-2 c = search needs
 returns : tie.Need-returns
 returns c =
     let p = c .before .before .before .before .before .before .before in
-    let r = c .before .before .join-all .ensures in
+    let r = c .before .before .all-from-lanes .ensures in
     let d = s p .args in (
       r .0 ∙ ap (λ (l : List ℤ). written l (d .outre .now)) (listed-cong _ _ _ (λ m l. ap (λ (x : Complex). x .re) (readings p m l))),
       r .1 ∙ ap (λ (l : List ℤ). written l (d .outim .now)) (listed-cong _ _ _ (λ m l. ap (λ (x : Complex). x .im) (readings p m l))),
@@ -81,7 +81,7 @@ all-spec =
     (tie.spec
     signs-requires
     put-all-lanes-requires
-    join-all-requires
+    all-from-lanes-requires
     same-length
     same-length-2
     returns)

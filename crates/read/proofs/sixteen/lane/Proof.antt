@@ -4,7 +4,7 @@ use borrow.Author.Needs.{needs}
 use Rattle.complex.specs.Arithmetic.{_⊕_}
 use Rattle.complex.specs.Fits.{Both}
 use Rattle.complex.proofs.Components.{both-⊕, both-fits}
-use Rattle.read.specs.Held.{lane}
+use Rattle.read.specs.Multipliers.{lane}
 use Rattle.read.proofs.sixteen.lane.Statement.{statement}
 use Rattle.read.proofs.sixteen.lane.Tie as tie
 

@@ -5,15 +5,15 @@ use Prim.Native.Nat.{ℕ, _+_, _*_, _/_, _≤_, _-_}
 use native.Mathlib.Omega.{arith}
 use lib.IntN.{ℤ}
 use lib.ListN.{length}
-use Rattle.complex.specs.Buffers.{listed, value, written}
-use Rattle.read.specs.Held.{entry, lanes-of}
+use Rattle.complex.specs.Buffers.{listed, value, written, _at_}
+use Rattle.read.specs.Multipliers.{lanes-of}
 use Rattle.read.proofs.sixteen.put_all_lanes.Statement.{statement}
 use Rattle.read.proofs.sixteen.put_all_lanes.Tie as tie
 
 abbrev Inv-loop : tie.InvT-loop
 Inv-loop s re im u₀ v₀ m₀ m-end u v m =
-    (m ≤ m-end) × (u ≡ written (listed (4 * m) (λ c. lanes-of (entry s) (value re im) c .re)) u₀)
-    × (v ≡ written (listed (4 * m) (λ c. lanes-of (entry s) (value re im) c .im)) v₀)
+    (m ≤ m-end) × (u ≡ written (listed (4 * m) (λ c. lanes-of (_at_ s) (value re im) c .re)) u₀)
+    × (v ≡ written (listed (4 * m) (λ c. lanes-of (_at_ s) (value re im) c .im)) v₀)
 
 abbrev μ-loop : tie.MeasureT-loop
 μ-loop s re im u₀ v₀ m₀ m-end u v m = m-end - m

@@ -10,9 +10,9 @@ use mir.Syntax.{w32}
 use mir.Val.{SFits}
 use mir.Facts.{toZ-ofZ}
 use Rattle.complex.specs.declared.Complex.{Complex}
-use Rattle.complex.specs.Buffers.{listed, value, written}
+use Rattle.complex.specs.Buffers.{listed, value, written, _at_}
 use Rattle.complex.proofs.Lists.{one-more-written}
-use Rattle.read.specs.Held.{entry, lanes-of}
+use Rattle.read.specs.Multipliers.{lanes-of}
 use Rattle.read.proofs.Lanes.{lanes-at}
 use Rattle.read.proofs.sixteen.put_lanes.Statement.{statement}
 use Rattle.read.proofs.sixteen.put_lanes.Tie as tie
@@ -20,10 +20,10 @@ use Rattle.read.proofs.sixteen.put_lanes.Tie as tie
 abbrev Inv-loop : tie.InvT-loop
 Inv-loop s re im m u₀ v₀ l₀ u v l =
     (l ≤ 4)
-    × ((d : List ℤ) → length d ≡ 276 → u₀ ≡ written (listed (4 * m) (λ c. lanes-of (entry s) (value re im) c .re)) d
-    → u ≡ written (listed (4 * m + l) (λ c. lanes-of (entry s) (value re im) c .re)) d)
-    × ((d : List ℤ) → length d ≡ 276 → v₀ ≡ written (listed (4 * m) (λ c. lanes-of (entry s) (value re im) c .im)) d
-    → v ≡ written (listed (4 * m + l) (λ c. lanes-of (entry s) (value re im) c .im)) d)
+    × ((d : List ℤ) → length d ≡ 276 → u₀ ≡ written (listed (4 * m) (λ c. lanes-of (_at_ s) (value re im) c .re)) d
+    → u ≡ written (listed (4 * m + l) (λ c. lanes-of (_at_ s) (value re im) c .re)) d)
+    × ((d : List ℤ) → length d ≡ 276 → v₀ ≡ written (listed (4 * m) (λ c. lanes-of (_at_ s) (value re im) c .im)) d
+    → v ≡ written (listed (4 * m + l) (λ c. lanes-of (_at_ s) (value re im) c .im)) d)
 
 abbrev μ-loop : tie.MeasureT-loop
 μ-loop s re im m u₀ v₀ l₀ u v l = 4 - l
@@ -86,7 +86,7 @@ loop-again c =
     let g : SFits w32 (y .result .im) = search needs in
     let h : l .l < 4 = omega arith in
     let b : s .m < 69 = omega arith in
-    let e = y .ensures ∙ lanes-at (entry (s .s .now)) (value (s .re .now) (s .im .now)) (s .m) (l .l) h in (
+    let e = y .ensures ∙ lanes-at (_at_ (s .s .now)) (value (s .re .now) (s .im .now)) (s .m) (l .l) h in (
       omega arith,
       λ d n w. more _ d (l .u) (s .m) (l .l) n b h (l .inv .1 d n w) (toZ-ofZ f ∙ ap (λ (x : Complex). x .re) e),
       λ d n w. more _ d (l .v) (s .m) (l .l) n b h (l .inv .2 d n w) (toZ-ofZ g ∙ ap (λ (x : Complex). x .im) e),

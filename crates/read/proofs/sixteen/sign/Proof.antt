@@ -7,7 +7,7 @@ use mir.Val.{SFits, toZ, ofZ}
 use mir.Facts.{toZ-ofZ}
 use Rattle.complex.specs.Fits.{Within}
 use Rattle.complex.proofs.Sizes.{fits-within, within-mul}
-use Rattle.codes.specs.Held.{sign-bit, signed-by-j}
+use Rattle.codes.specs.PackedSigns.{sign-bit, signed-by-j}
 use Rattle.codes.specs.Tree.{element}
 use Rattle.codes.proofs.Leaves.{element-within}
 use Rattle.codes.proofs.Rows.{sign-within}

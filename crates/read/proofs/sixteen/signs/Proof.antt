@@ -11,10 +11,10 @@ use mir.Val.{SFits}
 use mir.Facts.{toZ-ofZ}
 use Rattle.complex.specs.Buffers.{listed, written}
 use Rattle.complex.proofs.Lists.{one-more-written, listed-cong}
-use Rattle.codes.specs.Held.{sign-bit, signed-by-j}
+use Rattle.codes.specs.PackedSigns.{sign-bit, signed-by-j}
 use Rattle.codes.specs.Tree.{element}
 use Rattle.codes.proofs.Rows.{annex-read-back, v-at}
-use Rattle.read.specs.Held.{place-sign}
+use Rattle.read.specs.Multipliers.{place-sign}
 use Rattle.read.proofs.sixteen.signs.Statement.{statement}
 use Rattle.read.proofs.sixteen.signs.Tie as tie
 

@@ -13,9 +13,9 @@ use Rattle.complex.specs.Fits.{Within}
 use Rattle.complex.proofs.Sizes.{within-more, within-mul}
 use Rattle.complex.proofs.Components.{within-Σℤ}
 use Rattle.complex.proofs.Sums.{Σℤ-more}
-use Rattle.codes.specs.Held.{sign-bit}
+use Rattle.codes.specs.PackedSigns.{sign-bit}
 use Rattle.codes.proofs.Rows.{sign-within}
-use Rattle.read_sync.specs.Held.{half-sum}
+use Rattle.read_sync.specs.Shares.{half-sum}
 use Rattle.read_sync.proofs.sums.half_sum.Statement.{statement}
 use Rattle.read_sync.proofs.sums.half_sum.Tie as tie
 

@@ -6,7 +6,7 @@ use mir.Syntax.{w32}
 use mir.Val.{SFits, toZ, ofZ}
 use mir.Facts.{toZ-ofZ}
 use Rattle.complex.specs.Arithmetic.{_+j_, _⊗_, conj}
-use Rattle.analyser_parts.specs.Held.{correlated, signed-sum}
+use Rattle.analyser_parts.specs.PartSums.{correlated, signed-sum}
 use Rattle.analyser_parts.proofs.Bounds.{signed-sum-within}
 use Rattle.analyser_parts.proofs.Products.{held}
 use Rattle.read_sync.proofs.sync_reading.correlation.Statement.{statement}

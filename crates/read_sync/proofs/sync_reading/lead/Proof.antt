@@ -7,13 +7,14 @@ use lib.Dec.{lit≤}
 use Rattle.complex.specs.Buffers.{listed, value}
 use Rattle.complex.specs.Fits.{Both, Bound}
 use Rattle.complex.proofs.Bounds.{bound-listed, bound-more}
-use Rattle.codes.specs.Held.{packed}
+use Rattle.codes.specs.PackedSigns.{packed}
 use Rattle.codes.specs.SyncCodes.{b}
 use Rattle.analyser_parts.specs.Correlation.{P}
-use Rattle.analyser_parts.specs.Held.{correlated}
+use Rattle.analyser_parts.specs.PartSums.{correlated}
 use Rattle.analyser_parts.proofs.Correlations.{primary-is}
 use Rattle.read_sync.specs.SyncReading.{candidates}
-use Rattle.read_sync.specs.Held.{Leads, product}
+use Rattle.read_sync.specs.Shares.{product}
+use Rattle.read_sync.specs.Leaders.{Leads}
 use Rattle.read_sync.proofs.Shares.{P-within, parts-bound, product-within, scores-are}
 use Rattle.read_sync.proofs.sync_reading.lead.Statement.{statement}
 use Rattle.read_sync.proofs.sync_reading.lead.Tie as tie

@@ -5,15 +5,16 @@ use native.Mathlib.Nat.{zero-add}
 use native.Mathlib.Omega.{arith}
 use lib.IntN.{ℤ}
 use Rattle.complex.specs.Buffers.{value}
-use Rattle.read_sync.specs.SyncReading.{candidate, sent}
-use Rattle.read_sync.specs.Held.{Leads, shares-of}
+use Rattle.read_sync.specs.SyncReading.{candidate, candidate-codes}
+use Rattle.read_sync.specs.Shares.{shares-of}
+use Rattle.read_sync.specs.Leaders.{Leads}
 use Rattle.read_sync.proofs.Leaders.{leads-cong, leads-or-later}
 use Rattle.read_sync.proofs.Rows.{Case, case-known}
 use Rattle.read_sync.proofs.sync_reading.lead_of_all.Statement.{statement}
 use Rattle.read_sync.proofs.sync_reading.lead_of_all.Tie as tie
 
 abbrev Inv-loop : tie.InvT-loop
-Inv-loop re im case leader₀ n₀ n-end leader n = (1 ≤ n) × (n ≤ 2 * case) × Leads (λ k. shares-of (value re im) (sent case (candidate case k))) (32 * n) leader
+Inv-loop re im case leader₀ n₀ n-end leader n = (1 ≤ n) × (n ≤ 2 * case) × Leads (λ k. shares-of (value re im) (candidate-codes case (candidate case k))) (32 * n) leader
 
 abbrev μ-loop : tie.MeasureT-loop
 μ-loop re im case leader₀ n₀ n-end leader n = 2 * case - n
@@ -30,7 +31,7 @@ mul-n-end c = omega (arith, known (c .before) .below)
 loop-holds : tie.Need-loop-holds Inv-loop μ-loop
 loop-holds c =
     let s = c .before in
-    let scores : ℕ → ℤ = λ k. shares-of (value (s .args .re .now) (s .args .im .now)) (sent (s .args .case) (candidate (s .args .case) k)) in
+    let scores : ℕ → ℤ = λ k. shares-of (value (s .args .re .now) (s .args .im .now)) (candidate-codes (s .args .case) (candidate (s .args .case) k)) in
     (omega arith, omega (arith, known s .some), leads-cong (λ k. scores (32 * 0 + k)) scores 32 _ (λ k l. ap scores (zero-add k)) (c .set-leader .ensures))
 
 mul-or-later : tie.Need-mul-or-later Inv-loop μ-loop
@@ -60,7 +61,7 @@ returns c =
     let l = c .before .loop in
     let s = c .before .before .before in
     let e : 32 * l .n ≡ 32 * (2 * s .args .case) = omega arith in
-    subst (λ (n : ℕ). Leads (λ k. shares-of (value (s .args .re .now) (s .args .im .now)) (sent (s .args .case) (candidate (s .args .case) k))) n (l .leader)) (e ∙ sym (known s .sets)) (l .inv .2)
+    subst (λ (n : ℕ). Leads (λ k. shares-of (value (s .args .re .now) (s .args .im .now)) (candidate-codes (s .args .case) (candidate (s .args .case) k))) n (l .leader)) (e ∙ sym (known s .sets)) (l .inv .2)
 
 pub lead-of-all-spec : {M : Type 1} → statement M
 lead-of-all-spec =

@@ -14,10 +14,10 @@ use Rattle.complex.specs.Arithmetic.{_⊗_, conj}
 use Rattle.complex.specs.Buffers.{value}
 use Rattle.complex.specs.Fits.{Within, Bound}
 use Rattle.complex.proofs.Sizes.{fits-within}
-use Rattle.codes.specs.declared.burst.Row.{Row}
-use Rattle.codes.specs.Allocation.{row}
+use Rattle.codes.specs.declared.burst.AllocationRow.{AllocationRow}
+use Rattle.codes.specs.Allocation.{allocation-row}
 use Rattle.codes.proofs.Allocations.{unit-small}
-use Rattle.read_sync.specs.Held.{leader-of-row, leader-of-signs, Led}
+use Rattle.read_sync.specs.Leaders.{leader-of-row, leader-of-signs, Led}
 use Rattle.read_sync.specs.declared.sync_reading.Leader.{Leader}
 use Rattle.read_sync.proofs.SumLeaders.{signs-led}
 use Rattle.read_sync.proofs.Sets.{row-small, by-unit}
@@ -33,13 +33,13 @@ module _ (c : tie.After-row-of) where
   start = c .before
 
   small : (c .row-of .result .first < 16) × (c .row-of .result .second < 16) × (c .row-of .result .marker < 16)
-  small = subst (λ (r : Row). (r .first < 16) × (r .second < 16) × (r .marker < 16)) (sym (c .row-of .ensures)) (row-small (start .args .n) (start .args .set) (start .pre .0) (start .pre .1))
+  small = subst (λ (r : AllocationRow). (r .first < 16) × (r .second < 16) × (r .marker < 16)) (sym (c .row-of .ensures)) (row-small (start .args .n) (start .args .set) (start .pre .0) (start .pre .1))
 
-  row-is : c .row-of .result ≡ row (start .args .n) (start .args .set)
+  row-is : c .row-of .result ≡ allocation-row (start .args .n) (start .args .set)
   row-is = c .row-of .ensures
 
-  unit-is : toZ w32 (ofZ w32 (c .row-of .result .unit .re)) ≡ row (start .args .n) (start .args .set) .unit .re
-  unit-is = let e = ap (λ (r : Row). r .unit .re) row-is in toZ-ofZ (fits-within (subst (Within 1) (sym e) (unit-small _ _ .re)) tt) ∙ e
+  unit-is : toZ w32 (ofZ w32 (c .row-of .result .unit .re)) ≡ allocation-row (start .args .n) (start .args .set) .unit .re
+  unit-is = let e = ap (λ (r : AllocationRow). r .unit .re) row-is in toZ-ofZ (fits-within (subst (Within 1) (sym e) (unit-small _ _ .re)) tt) ∙ e
 
   -- the products
   abbrev products : ℕ → Complex
@@ -47,12 +47,12 @@ module _ (c : tie.After-row-of) where
 
   -- what counts of a product
   abbrev share : ℕ → ℤ
-  share i = (products i ⊗ conj (row (start .args .n) (start .args .set) .unit)) .re
+  share i = (products i ⊗ conj (allocation-row (start .args .n) (start .args .set) .unit)) .re
 
-  imaginary-parts : row (start .args .n) (start .args .set) .unit .re ≡ pos 0 → (i : ℕ) → leader-of-signs (products i .im) ≡ leader-of-signs (share i)
+  imaginary-parts : allocation-row (start .args .n) (start .args .set) .unit .re ≡ pos 0 → (i : ℕ) → leader-of-signs (products i .im) ≡ leader-of-signs (share i)
   imaginary-parts e i = ap leader-of-signs (sym (by-unit (start .args .n) (start .args .set) (products i) (start .pre .0) .0 e))
 
-  real-parts : row (start .args .n) (start .args .set) .unit .re ≢ pos 0 → (i : ℕ) → leader-of-signs (products i .re) ≡ leader-of-signs (share i)
+  real-parts : allocation-row (start .args .n) (start .args .set) .unit .re ≢ pos 0 → (i : ℕ) → leader-of-signs (products i .re) ≡ leader-of-signs (share i)
   real-parts n i = ap leader-of-signs (sym (by-unit (start .args .n) (start .args .set) (products i) (start .pre .0) .1 n))
 
 sign-leader-requires : tie.Need-sign-leader-requires
@@ -92,9 +92,9 @@ returns c =
     let m = t .before .before .before in
     let r = m .before in
     let e = sym (unit-is r) ∙ ap (toZ w32) (t .if1 .taken) in
-    let first-is = c .before .before .sign-leader2 .ensures ∙ ap (λ (w : Row). leader-of-signs (products r (w .first) .im)) (row-is r) ∙ imaginary-parts r e _ in
-    let second-is = c .before .sign-leader3 .ensures ∙ ap (λ (w : Row). leader-of-signs (products r (w .second) .im)) (row-is r) ∙ imaginary-parts r e _ in
-    let marker-is = m .sign-leader .ensures ∙ ap (λ (w : Row). leader-of-signs (products r (w .marker) .re)) (row-is r) in
+    let first-is = c .before .before .sign-leader2 .ensures ∙ ap (λ (w : AllocationRow). leader-of-signs (products r (w .first) .im)) (row-is r) ∙ imaginary-parts r e _ in
+    let second-is = c .before .sign-leader3 .ensures ∙ ap (λ (w : AllocationRow). leader-of-signs (products r (w .second) .im)) (row-is r) ∙ imaginary-parts r e _ in
+    let marker-is = m .sign-leader .ensures ∙ ap (λ (w : AllocationRow). leader-of-signs (products r (w .marker) .re)) (row-is r) in
     c .row-leader .ensures ∙ (λ i. leader-of-row (start r .args .case) (first-is i) (second-is i) (marker-is i))
 
 returns-2 : tie.Need-returns-2
@@ -102,10 +102,10 @@ returns-2 c =
     let t = c .before .before .before in
     let m = t .before .before .before in
     let r = m .before in
-    let n : row (start r .args .n) (start r .args .set) .unit .re ≢ pos 0 = λ e. t .if1 .left (ap (ofZ w32) (ap (λ (w : Row). w .unit .re) (row-is r) ∙ e)) in
-    let first-is = c .before .before .sign-leader4 .ensures ∙ ap (λ (w : Row). leader-of-signs (products r (w .first) .re)) (row-is r) ∙ real-parts r n _ in
-    let second-is = c .before .sign-leader5 .ensures ∙ ap (λ (w : Row). leader-of-signs (products r (w .second) .re)) (row-is r) ∙ real-parts r n _ in
-    let marker-is = m .sign-leader .ensures ∙ ap (λ (w : Row). leader-of-signs (products r (w .marker) .re)) (row-is r) in
+    let n : allocation-row (start r .args .n) (start r .args .set) .unit .re ≢ pos 0 = λ e. t .if1 .left (ap (ofZ w32) (ap (λ (w : AllocationRow). w .unit .re) (row-is r) ∙ e)) in
+    let first-is = c .before .before .sign-leader4 .ensures ∙ ap (λ (w : AllocationRow). leader-of-signs (products r (w .first) .re)) (row-is r) ∙ real-parts r n _ in
+    let second-is = c .before .sign-leader5 .ensures ∙ ap (λ (w : AllocationRow). leader-of-signs (products r (w .second) .re)) (row-is r) ∙ real-parts r n _ in
+    let marker-is = m .sign-leader .ensures ∙ ap (λ (w : AllocationRow). leader-of-signs (products r (w .marker) .re)) (row-is r) in
     c .row-leader2 .ensures ∙ (λ i. leader-of-row (start r .args .case) (first-is i) (second-is i) (marker-is i))
 
 pub leader-in-row-spec : {M : Type 1} → statement M

@@ -13,11 +13,11 @@ use Rattle.complex.specs.Buffers.{listed, written}
 use Rattle.complex.proofs.Lists.{one-more-written, all-written}
 use Rattle.complex.proofs.Bounds.{bound-more}
 use Rattle.complex.proofs.Sizes.{within-add, within-sub, fits-within}
-use Rattle.codes.specs.Held.{packed}
+use Rattle.codes.specs.PackedSigns.{packed}
 use Rattle.codes.specs.SyncCodes.{a, b}
-use Rattle.analyser_parts.specs.Held.{signed-sum}
+use Rattle.analyser_parts.specs.PartSums.{signed-sum}
 use Rattle.analyser_parts.proofs.Products.{held}
-use Rattle.read_sync.specs.Held.{half-sum}
+use Rattle.read_sync.specs.Shares.{half-sum}
 use Rattle.read_sync.proofs.Halves.{by-a, by-b, half-sum-within}
 use Rattle.read_sync.proofs.sync_reading.parts.Statement.{statement}
 use Rattle.read_sync.proofs.sync_reading.parts.Tie as tie

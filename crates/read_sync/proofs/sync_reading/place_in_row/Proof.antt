@@ -1,7 +1,7 @@
 -- `place_in_row` meets its contract: case 1 apart from any other. Assumes nothing.
 use borrow.Author.Tests.{eq-eqb, ne-eqb}
 use borrow.Author.Needs.{needs}
-use Rattle.read_sync.specs.Held.{place-in-row}
+use Rattle.read_sync.specs.Leaders.{place-in-row}
 use Rattle.read_sync.proofs.sync_reading.place_in_row.Statement.{statement}
 use Rattle.read_sync.proofs.sync_reading.place_in_row.Tie as tie
 

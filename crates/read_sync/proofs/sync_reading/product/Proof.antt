@@ -5,9 +5,9 @@ use borrow.Author.Tests.{not-true, not-false}
 use Rattle.complex.specs.declared.Complex.{Complex}
 use Rattle.complex.specs.Arithmetic.{𝟎, _⊗_, conj}
 use Rattle.complex.specs.Fits.{Both}
-use Rattle.codes.specs.Held.{secondary-row}
-use Rattle.analyser_parts.specs.Held.{correlated}
-use Rattle.read_sync.specs.Held.{product}
+use Rattle.codes.specs.PackedSigns.{secondary-row}
+use Rattle.analyser_parts.specs.PartSums.{correlated}
+use Rattle.read_sync.specs.Shares.{product}
 use Rattle.read_sync.proofs.Shares.{correlated-within}
 use Rattle.read_sync.proofs.sync_reading.product.Statement.{statement}
 use Rattle.read_sync.proofs.sync_reading.product.Tie as tie

@@ -10,7 +10,7 @@ use mir.Facts.{toZ-ofZ}
 use Rattle.complex.specs.declared.Complex.{Complex}
 use Rattle.complex.specs.Buffers.{listed, written}
 use Rattle.complex.proofs.Lists.{one-more-written, all-written}
-use Rattle.read_sync.specs.Held.{product}
+use Rattle.read_sync.specs.Shares.{product}
 use Rattle.read_sync.proofs.sync_reading.products.Statement.{statement}
 use Rattle.read_sync.proofs.sync_reading.products.Tie as tie
 

@@ -6,7 +6,7 @@ use mir.Syntax.{w64}
 use mir.Val.{SFits}
 use mir.Facts.{toZ-ofZ}
 use Rattle.complex.proofs.Sizes.{within-add, fits-within}
-use Rattle.read_sync.specs.Held.{leader-with, Led, place-in-row}
+use Rattle.read_sync.specs.Leaders.{leader-with, Led, place-in-row}
 use Rattle.read_sync.specs.declared.sync_reading.Leader.{Leader}
 use Rattle.read_sync.proofs.SumLeaders.{with-led}
 use Rattle.read_sync.proofs.sync_reading.row_leader.Statement.{statement}

@@ -7,8 +7,8 @@ use lib.Dec.{lit<}
 use Rattle.complex.specs.declared.Complex.{Complex}
 use Rattle.complex.specs.Buffers.{value}
 use Rattle.codes.specs.declared.burst.CodeSet.{CodeSet}
-use Rattle.codes.specs.Allocation.{code-set, row}
-use Rattle.read_sync.specs.Held.{leader-in-row, leader-or-later, Leads, SmallSet}
+use Rattle.codes.specs.Allocation.{code-set, allocation-row}
+use Rattle.read_sync.specs.Leaders.{leader-in-row, leader-or-later, Leads, SmallSet}
 use Rattle.read_sync.specs.declared.sync_reading.Leader.{Leader}
 use Rattle.read_sync.proofs.Sets.{set-small, row-of-set, set-leads}
 use Rattle.read_sync.proofs.sync_reading.set_leader.Statement.{statement}
@@ -32,12 +32,12 @@ module _ (c : tie.After-code-set) where
 
   -- the leader of row q
   abbrev in-row : ℕ → Leader
-  in-row q = leader-in-row (start .args .case) products (row q (code-set (1 + start .args .n)))
+  in-row q = leader-in-row (start .args .case) products (allocation-row q (code-set (1 + start .args .n)))
 
   -- what was found for row q is that, and one of eight
-  found : (q : ℕ) → q < 4 → {l : Leader} → l ≡ leader-in-row (start .args .case) products (row q (c .code-set .result)) → (l ≡ in-row q) × (l .at < 32)
+  found : (q : ℕ) → q < 4 → {l : Leader} → l ≡ leader-in-row (start .args .case) products (allocation-row q (c .code-set .result)) → (l ≡ in-row q) × (l .at < 32)
   found q h {l} e =
-      let is : l ≡ in-row q = e ∙ ap (λ (s : CodeSet). leader-in-row (start .args .case) products (row q s)) (c .code-set .ensures) in
+      let is : l ≡ in-row q = e ∙ ap (λ (s : CodeSet). leader-in-row (start .args .case) products (allocation-row q s)) (c .code-set .ensures) in
       let b = row-of-set products (start .args .case) (start .args .n) (start .pre .0) (start .pre .1) q (8 * q) h refl .below in
       (is, subst (λ (l : Leader). l .at < 32) (sym is) (omega (arith, b)))
 

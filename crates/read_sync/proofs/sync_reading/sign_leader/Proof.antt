@@ -8,7 +8,7 @@ use mir.Val.{toZ, ofZ}
 use mir.Facts.{toZ-ofZ}
 use Rattle.complex.proofs.Sizes.{fits-within}
 use Rattle.analyser_parts.proofs.Products.{held}
-use Rattle.read_sync.specs.Held.{leader-of-signs}
+use Rattle.read_sync.specs.Leaders.{leader-of-signs}
 use Rattle.read_sync.proofs.sync_reading.sign_leader.Statement.{statement}
 use Rattle.read_sync.proofs.sync_reading.sign_leader.Tie as tie
 

@@ -1,5 +1,5 @@
 -- `drew` meets its contract: the chips fit, or nothing changes. Assumes nothing.
-use mathlib.Core.Path.{_≡_, refl, sym, _∙_}
+use mathlib.Core.Path.{_≡_, sym, _∙_}
 use mathlib.Core.Bool.{true, false}
 use Prim.Native.Nat.{_+_}
 use native.Mathlib.Nat.{lt-of-le-of-lt}

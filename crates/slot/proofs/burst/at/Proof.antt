@@ -9,7 +9,7 @@ use Rattle.complex.specs.declared.Complex.{Complex}
 use Rattle.complex.specs.Fits.{Bound}
 use Rattle.codes.specs.Burst.{burst}
 use Rattle.modulation.specs.declared.Block.{Block}
-use Rattle.modulation.specs.Held.{block-of}
+use Rattle.modulation.specs.SixteenChips.{block-of}
 use Rattle.modulation.proofs.Blocks.{block-bound, block-cong}
 use Rattle.slot.specs.Setup.{SyncSetup}
 use Rattle.slot.specs.Slot.{sync-chip}

@@ -9,18 +9,16 @@ use Prim.Native.Nat.{_+_}
 use lib.Dec.{leb, ltb}
 use Rattle.slot.specs.Setup.{SyncSetup}
 use Rattle.slot.specs.Tables.{view-sync}
-use Rattle.slot.specs.Held.{falls-on}
+use Rattle.slot.specs.Slot.{falls-on}
 use Rattle.slot.proofs.BurstPlace.{cell-start, start-found}
 use Rattle.slot.proofs.BurstBlocks.{view-off, view-on}
 use Rattle.slot.proofs.burst.falls.Statement.{statement}
 use Rattle.slot.proofs.burst.falls.Tie as tie
 
 returns : tie.Need-returns
-unfolding falls-on
 returns c = let s = c .before .before .args in sym (ap (λ (o : Option SyncSetup). falls-on (s .cell .0) o (s .x)) (view-off _ _ (inl (c .if1 .taken))))
 
 returns-2 : tie.Need-returns-2
-unfolding falls-on
 returns-2 c = let s = c .before .before .before .before .args in sym (ap (λ (o : Option SyncSetup). falls-on (s .cell .0) o (s .x)) (view-off _ _ (inr (c .if2 .taken))))
 
 -- the burst's start, and the test for a burst
@@ -33,7 +31,6 @@ module _ (c : tie.After-start-of) where
 
   tested : falls-on (began .args .cell .0) (view-sync (began .args .cell .0) (began .args .y)) (began .args .x)
       ≡ (leb (c .start-of .result) (began .args .x) && ltb (began .args .x) (c .start-of .result + 256))
-  unfolding falls-on
   tested =
       ap (λ (o : Option SyncSetup). falls-on (began .args .cell .0) o (began .args .x)) (view-on _ _ (c .before .before .before .before .if1 .left) (c .before .before .if2 .left))
       ∙ (λ j. leb (sym start-is j) (began .args .x) && ltb (began .args .x) (sym start-is j + 256))

@@ -3,9 +3,9 @@ use mathlib.Core.Path.{sym, _∙_}
 use Prim.Native.Nat.{ℕ, _+_}
 use native.Mathlib.Omega.{arith}
 use borrow.Author.Needs.{needs}
-use borrow.Author.Tests.{eqb-true, not-true}
+use borrow.Author.Tests.{not-true}
 use Rattle.complex.specs.declared.Complex.{Complex}
-use Rattle.modulation.specs.Held.{block-chip}
+use Rattle.modulation.specs.SixteenChips.{block-chip}
 use Rattle.slot.specs.Slot.{sync-chip}
 use Rattle.slot.specs.Tables.{view-sync}
 use Rattle.slot.proofs.BurstBlocks.{falls-nowhere}
@@ -23,17 +23,19 @@ module _ (c : tie.Start) where
 
 write-whole-requires : tie.Need-write-whole-requires
 write-whole-requires c κs =
-    let s = c .before .before .before .before .before .before in
+    let s = c .before .before .before .before .before in
     let p = s .pre in
-    (p .0, p .1, p .2, p .3, c .before .before .before .before .before .if1 .taken, eqb-true _ _ (c .before .before .before .before .if2 .taken))
+    let e = c .before .before .before .before .if1 .taken in
+    (p .0, p .1, p .2, p .3, e, p .5 ∙ e)
 
 returns : tie.Need-returns
 returns c =
-    let s = c .before .before .before .before .before .before .before .before .before in
+    let s = c .before .before .before .before .before .before .before .before in
+    let l = c .before .before .before .before .before .before .before .if1 .taken in
     let e = c .before .before .write-whole .ensures in
-    let silent = falls-nowhere (s .args .cell .0) (view-sync (s .args .cell .0) (s .args .sync)) (s .args .x) (s .pre .6) (sym (c .before .before .before .before .before .before .falls .ensures) ∙ not-true _ (c .before .before .before .before .before .if3 .taken)) in (
-      whole-chips (λ z. z .re) (chips s) (burst s) _ (s .args .i) (c .before .before .before .before .before .before .before .before .if1 .taken) (s .pre .4) silent (e .0),
-      whole-chips (λ z. z .im) (chips s) (burst s) _ (s .args .i) (eqb-true _ _ (c .before .before .before .before .before .before .before .if2 .taken)) (omega (arith, s .pre .4, s .pre .5)) silent (e .1),
+    let silent = falls-nowhere (s .args .cell .0) (view-sync (s .args .cell .0) (s .args .sync)) (s .args .x) (s .pre .6) (sym (c .before .before .before .before .before .before .falls .ensures) ∙ not-true _ (c .before .before .before .before .before .if2 .taken)) in (
+      whole-chips (λ z. z .re) (chips s) (burst s) _ (s .args .i) l (s .pre .4) silent (e .0),
+      whole-chips (λ z. z .im) (chips s) (burst s) _ (s .args .i) (s .pre .5 ∙ l) (omega (arith, s .pre .4, s .pre .5)) silent (e .1),
     )
 
 returns-2 : tie.Need-returns-2

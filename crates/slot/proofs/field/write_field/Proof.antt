@@ -11,10 +11,10 @@ use lib.Seq.{length-take-le}
 use Rattle.complex.specs.declared.Complex.{Complex}
 use Rattle.complex.specs.Arithmetic.{_⊕_}
 use Rattle.complex.specs.Buffers.{listed, written}
-use Rattle.modulation.specs.Held.{block-chip}
+use Rattle.modulation.specs.SixteenChips.{block-chip}
 use Rattle.slot.specs.Slot.{sync-chip}
 use Rattle.slot.specs.Tables.{view-sync}
-use Rattle.slot.specs.Held.{held-chip}
+use Rattle.slot.specs.FieldBlocks.{chip-by-blocks}
 use Rattle.slot.proofs.Pieces.{length-written, part-written, filled}
 use Rattle.slot.proofs.field.write_field.Statement.{statement}
 use Rattle.slot.proofs.field.write_field.Tie as tie
@@ -22,8 +22,8 @@ use Rattle.slot.proofs.field.write_field.Tie as tie
 abbrev Inv-loop : tie.InvT-loop
 Inv-loop gains levels pairs cell sync tre tim before start q re₀ im₀ n done₀ re im done =
     (done ≤ n) × (length re ≡ length re₀) × (length im ≡ length im₀)
-    × (re ≡ written (listed done (λ i. held-chip gains pairs (cell .0) sync tre tim before start (q + i) .re)) re₀)
-    × (im ≡ written (listed done (λ i. held-chip gains pairs (cell .0) sync tre tim before start (q + i) .im)) im₀)
+    × (re ≡ written (listed done (λ i. chip-by-blocks gains pairs (cell .0) sync tre tim before start (q + i) .re)) re₀)
+    × (im ≡ written (listed done (λ i. chip-by-blocks gains pairs (cell .0) sync tre tim before start (q + i) .im)) im₀)
 
 abbrev μ-loop : tie.MeasureT-loop
 μ-loop gains levels pairs cell sync tre tim before start q re₀ im₀ n done₀ re im done = n - done
@@ -70,9 +70,9 @@ write-block-requires c κs =
     )
 
 -- the chips of a turn, which begins at chip q of the field and writes m chips of one block, are the field's
-turn-chip : (f : ℕ → ℕ → Complex) (g : ℕ → Complex) (q start m : ℕ) → q % 16 + m ≤ 16 → (j : ℕ) → j < m
+place-chip : (f : ℕ → ℕ → Complex) (g : ℕ → Complex) (q start m : ℕ) → q % 16 + m ≤ 16 → (j : ℕ) → j < m
     → f (q - q % 16) (q % 16 + j) ⊕ g (start + (q - q % 16) + (q % 16 + j)) ≡ f (q + j - (q + j) % 16) ((q + j) % 16) ⊕ g (start + (q + j))
-turn-chip f g q start m h j l =
+place-chip f g q start m h j l =
     let a : q - q % 16 ≡ q + j - (q + j) % 16 = omega arith in
     let b : q % 16 + j ≡ (q + j) % 16 = omega arith in
     let d : start + (q - q % 16) + (q % 16 + j) ≡ start + (q + j) = omega arith in
@@ -87,10 +87,10 @@ loop-again c =
     let w = c .before .before .write-block .ensures in
     let f : ℕ → ℕ → Complex = λ first c. block-chip (a .gains .now) (a .pairs .now) (a .before + first) (a .tre .now) (a .tim .now) c in
     let g : ℕ → Complex = sync-chip (a .cell .0) (view-sync (a .cell .0) (a .sync)) in
-    let held : ℕ → Complex = held-chip (a .gains .now) (a .pairs .now) (a .cell .0) (a .sync) (a .tre .now) (a .tim .now) (a .before) (a .start) in
+    let held : ℕ → Complex = chip-by-blocks (a .gains .now) (a .pairs .now) (a .cell .0) (a .sync) (a .tre .now) (a .tim .now) (a .before) (a .start) in
     let k = l .done + m - l .done in
     let n : l .done + k ≡ l .done + m = omega arith in
-    let chip : (i : ℕ) → i < k → _ ≡ held (a .q + (l .done + i)) = λ i d. turn-chip f g (a .q + l .done) (a .start) m (h .0) i (omega arith) ∙ ap held (add-assoc (a .q) (l .done) i) in
+    let chip : (i : ℕ) → i < k → _ ≡ held (a .q + (l .done + i)) = λ i d. place-chip f g (a .q + l .done) (a .start) m (h .0) i (omega arith) ∙ ap held (add-assoc (a .q) (l .done) i) in
     let re-is = part-written (λ i. held (a .q + i) .re) (l .re) (a .re .now) _ _ (l .done) k (l .done + m) (l .inv .3) n (h .1) (w .0) (λ i d. ap (λ (z : Complex). z .re) (chip i d)) in
     let im-is = part-written (λ i. held (a .q + i) .im) (l .im) (a .im .now) _ _ (l .done) k (l .done + m) (l .inv .4) n (h .2) (w .1) (λ i d. ap (λ (z : Complex). z .im) (chip i d)) in
     (h .1, ap length re-is ∙ length-written _ _ _ (h .1), ap length im-is ∙ length-written _ _ _ (h .2), re-is, im-is)

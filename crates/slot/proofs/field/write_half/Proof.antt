@@ -9,7 +9,7 @@ use lib.ListN.{length, take}
 use lib.Seq.{length-take-le}
 use Rattle.complex.specs.declared.Complex.{Complex}
 use Rattle.complex.specs.Arithmetic.{𝟎}
-use Rattle.slot.specs.Held.{held-chip}
+use Rattle.slot.specs.FieldBlocks.{chip-by-blocks}
 use Rattle.slot.proofs.Pieces.{two-parts}
 use borrow.Author.Needs.{needs}
 use Rattle.slot.proofs.field.write_half.Statement.{statement}
@@ -76,7 +76,7 @@ unfolding 𝟎
 returns c =
     let s = c .before .before .before .before .before .before .before .before .before .before .before .args in
     let f = c .before .before .before .before .before .before .before .before .write-field .ensures in
-    let at : ℕ → Complex = λ i. held-chip (s .gains .now) (s .pairs .now) (s .cell .0) (s .sync) (s .tre .now) (s .tim .now) (s .before) (s .start) (s .q + i) in
+    let at : ℕ → Complex = λ i. chip-by-blocks (s .gains .now) (s .pairs .now) (s .cell .0) (s .sync) (s .tre .now) (s .tim .now) (s .before) (s .start) (s .q + i) in
     let chip : ℕ → Complex = λ i. cond (ltb i (s .count)) (at i) 𝟎 in
     let in-field : (i : ℕ) → i < s .count → at i ≡ chip i = λ i l. sym (rw (lt-ltb i (s .count) l)) in
     let after : (i : ℕ) → s .count + i < length (s .re .now) → 𝟎 ≡ chip (s .count + i) = λ i l. sym (rw (le-ltb (s .count + i) (s .count) (omega arith))) in (

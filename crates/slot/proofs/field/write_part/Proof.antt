@@ -6,7 +6,7 @@ use Rattle.complex.specs.declared.Complex.{Complex}
 use Rattle.complex.specs.Arithmetic.{_⊕_}
 use Rattle.complex.specs.Buffers.{value}
 use Rattle.modulation.specs.declared.Block.{Block}
-use Rattle.modulation.specs.Held.{block-chip}
+use Rattle.modulation.specs.SixteenChips.{block-chip}
 use Rattle.slot.proofs.FieldBlocks.{summed}
 use Rattle.slot.proofs.Pieces.{put-part}
 use Rattle.slot.proofs.field.write_part.Statement.{statement}

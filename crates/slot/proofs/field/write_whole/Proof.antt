@@ -3,7 +3,7 @@ use mathlib.Core.Path.{ap}
 use borrow.Author.Needs.{needs}
 use Rattle.complex.specs.declared.Complex.{Complex}
 use Rattle.modulation.specs.declared.Block.{Block}
-use Rattle.modulation.specs.Held.{block-chip}
+use Rattle.modulation.specs.SixteenChips.{block-chip}
 use Rattle.slot.proofs.Pieces.{put-all}
 use Rattle.slot.proofs.field.write_whole.Statement.{statement}
 use Rattle.slot.proofs.field.write_whole.Tie as tie

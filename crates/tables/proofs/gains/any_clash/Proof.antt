@@ -6,7 +6,7 @@ use Prim.Native.Nat.{_≤_, _-_}
 use native.Mathlib.Numerals.{add-one}
 use native.Mathlib.Omega.{arith}
 use Rattle.codes.specs.Range.{any}
-use Rattle.tables.specs.Held.{clashes}
+use Rattle.tables.specs.OpenCodes.{clashes}
 use Rattle.tables.proofs.gains.any_clash.Statement.{statement}
 use Rattle.tables.proofs.gains.any_clash.Tie as tie
 

@@ -7,7 +7,7 @@ use native.Mathlib.Nat.{add-zero}
 use native.Mathlib.Omega.{arith}
 use borrow.Author.Needs.{needs}
 use lib.ListN.{length, getD, length-set}
-use Rattle.tables.specs.Held.{cleared}
+use Rattle.tables.specs.PairChanges.{cleared}
 use Rattle.tables.proofs.Entries.{Became, passed, all-entries, none-passed, one-more-passed, all-passed}
 use Rattle.tables.proofs.pairs.clear_leaves.Statement.{statement}
 use Rattle.tables.proofs.pairs.clear_leaves.Tie as tie

@@ -1,6 +1,10 @@
 -- `is_leaf_open` meets its contract. Assumes nothing.
+use mathlib.Core.Path.{_≡_, sym}
+use mathlib.Core.Bool.{_||_}
+use Prim.Native.Nat.{_/_}
+use native.Mathlib.Omega.{arith}
 use borrow.Author.Needs.{needs}
-use Rattle.tables.specs.Held.{is-leaf-open}
+use Rattle.tables.specs.OpenCodes.{open-at, is-leaf-open}
 use Rattle.tables.proofs.pairs.is_leaf_open.Statement.{statement}
 use Rattle.tables.proofs.pairs.is_leaf_open.Tie as tie
 
@@ -11,7 +15,13 @@ returns c =
     let d = e .before in
     let b = d .before in
     let a = b .before in
+    let s = a .before .before in
+    let g = s .args .gains .now in
+    let l = s .args .l in
+    let first : 0 ≡ l / 16 = omega (arith, s .pre) in
+    let last : l ≡ l / 1 = omega arith in
     rw (c .any-of-five .ensures, e .is-open5 .ensures, d .is-open4 .ensures, b .is-open3 .ensures, a .is-open2 .ensures, a .before .is-open .ensures)
+    (λ i. open-at g 1 (first i) || open-at g 2 (l / 8) || open-at g 4 (l / 4) || open-at g 8 (l / 2) || open-at g 16 (last i))
 
 pub is-leaf-open-spec : {M : Type 1} → statement M
 is-leaf-open-spec =

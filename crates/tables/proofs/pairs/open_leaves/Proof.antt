@@ -5,7 +5,7 @@ use native.Mathlib.Omega.{arith}
 use lib.ListN.{set}
 use Rattle.complex.specs.Buffers.{listed, written}
 use Rattle.complex.proofs.Lists.{one-more-written, all-written}
-use Rattle.tables.specs.Held.{is-leaf-open}
+use Rattle.tables.specs.OpenCodes.{is-leaf-open}
 use Rattle.tables.proofs.pairs.open_leaves.Statement.{statement}
 use Rattle.tables.proofs.pairs.open_leaves.Tie as tie
 

@@ -4,7 +4,7 @@ use Prim.Native.Nat.{_+_, _-_, _≤_}
 use native.Mathlib.Omega.{arith}
 use lib.ListN.{length, length-set}
 use Rattle.modulation.specs.Symbols.{pair}
-use Rattle.tables.specs.Held.{with-part}
+use Rattle.tables.specs.PairChanges.{with-part}
 use Rattle.tables.proofs.Entries.{Became, part, all-entries, no-part, one-more-in-part}
 use Rattle.tables.proofs.pairs.put_block.Statement.{statement}
 use Rattle.tables.proofs.pairs.put_block.Tie as tie

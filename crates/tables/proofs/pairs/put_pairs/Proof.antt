@@ -5,7 +5,7 @@ use native.Mathlib.Omega.{arith}
 use borrow.Author.Needs.{needs}
 use lib.ListN.{length, length-set}
 use Rattle.modulation.specs.Symbols.{pair}
-use Rattle.tables.specs.Held.{with-part}
+use Rattle.tables.specs.PairChanges.{with-part}
 use Rattle.tables.proofs.Entries.{Became, part, all-entries, no-part, one-more-in-part}
 use Rattle.tables.proofs.pairs.put_pairs.Statement.{statement}
 use Rattle.tables.proofs.pairs.put_pairs.Tie as tie

@@ -7,7 +7,7 @@ use native.Mathlib.Omega.{arith}
 use borrow.Author.Needs.{needs}
 use lib.ListN.{length}
 use Rattle.modulation.specs.Symbols.{pair}
-use Rattle.tables.specs.Bits.{pairs-with}
+use Rattle.tables.specs.Bits.{pairs-with-bits}
 use Rattle.tables.proofs.Blocks.{pairs-in-block}
 use Rattle.tables.proofs.Entries.{Became, blocks, all-entries, no-block, one-more-block, all-blocks}
 use Rattle.tables.proofs.pairs.set_bits.Statement.{statement}
@@ -70,7 +70,7 @@ loop-again c =
     (omega arith, λ l. n .0, n .1)
 
 returns : tie.Need-returns Inv-loop μ-loop
-unfolding pairs-with
+unfolding pairs-with-bits
 returns c =
     let l = c .before .loop in
     let e : l .m ≡ 138 = omega arith in

@@ -6,7 +6,7 @@ use borrow.Author.Needs.{needs}
 use lib.IntN.{pos}
 use lib.ListN.{length, drop, length-drop, drop-of-length-le}
 use lib.Seq.{take-all}
-use Rattle.text.specs.Decimal.{told-natural}
+use Rattle.text.specs.Decimal.{number-of-natural}
 use Rattle.text.proofs.Digits.{within, none-within, negative, positive}
 use Rattle.text.proofs.numbers.to_component.Statement.{statement}
 use Rattle.text.proofs.numbers.to_component.Tie as tie
@@ -27,14 +27,14 @@ returns-3 c =
     let t = d .before .before in
     let w = t .before .before .before .before .before .args .w .now in
     c .plus .ensures
-    ∙ within 2147483647 pos (omega arith) w _ (sym (ap told-natural (d .v .given .1)) ∙ t .to-natural .ensures)
+    ∙ within 2147483647 pos (omega arith) w _ (sym (ap number-of-natural (d .v .given .1)) ∙ t .to-natural .ensures)
     ∙ sym (positive w (omega arith) (t .before .if2 .left))
 
 returns-4 : tie.Need-returns-4
 returns-4 c =
     let t = c .before .before in
     let w = t .before .before .before .before .before .args .w .now in
-    none-within 2147483647 pos (omega arith) w (sym (ap told-natural (c .enum-told .given .1)) ∙ t .to-natural .ensures)
+    none-within 2147483647 pos (omega arith) w (sym (ap number-of-natural (c .enum-told .given .1)) ∙ t .to-natural .ensures)
     ∙ sym (positive w (omega arith) (t .before .if2 .left))
 
 pub to-component-spec : {M : Type 1} → statement M

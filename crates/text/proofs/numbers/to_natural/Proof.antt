@@ -7,13 +7,13 @@ use native.Mathlib.Omega.{arith}
 use borrow.Author.Needs.{needs}
 use lib.ListN.{length, getD, drop, drop-of-length-le}
 use lib.Seq.{drop-cons, drop-length}
-use Rattle.text.specs.Decimal.{natural}
+use Rattle.text.specs.Decimal.{natural-in}
 use Rattle.text.proofs.Digits.{read-after, natural-read, read-past, read-all, read-other, read-digit}
 use Rattle.text.proofs.numbers.to_natural.Statement.{statement}
 use Rattle.text.proofs.numbers.to_natural.Tie as tie
 
 abbrev Inv-loop : tie.InvT-loop
-Inv-loop w v₀ i₀ i-end v i = (i ≤ length w) × (v ≤ 4294967295) × (natural w ≡ read-after v (drop i w))
+Inv-loop w v₀ i₀ i-end v i = (i ≤ length w) × (v ≤ 4294967295) × (natural-in w ≡ read-after v (drop i w))
 
 abbrev μ-loop : tie.MeasureT-loop
 μ-loop w v₀ i₀ i-end v i = length w - i
@@ -26,7 +26,7 @@ loop-holds c = (omega arith, omega arith, natural-read (c .before .before .args 
 
 -- the byte at i, and those after it
 next : (c : tie.In-loop Inv-loop μ-loop) → let l = c .before .loop in let w = c .before .before .before .before .args .w .now in
-    natural w ≡ read-after (l .v) (getD w (l .i) 0 ∷ drop (l .i + 1) w)
+    natural-in w ≡ read-after (l .v) (getD w (l .i) 0 ∷ drop (l .i + 1) w)
 next c =
     let l = c .before .loop in
     l .inv .2 ∙ rw (add-one (l .i), drop-cons (c .before .before .before .before .args .w .now) (l .i) 0 (omega arith))
@@ -39,7 +39,7 @@ returns-2 c =
 
 -- past the digit at i
 past : (c : tie.Else2 Inv-loop μ-loop) → let l = c .before .before .before .before in let w = l .before .before .before .args .w .now in
-    natural w ≡ read-after (l .loop .v * 10 + c .before .digit .result) (drop (l .loop .i + 1) w)
+    natural-in w ≡ read-after (l .loop .v * 10 + c .before .digit .result) (drop (l .loop .i + 1) w)
 past c =
     let d = c .before in
     let e = d .before .before in

@@ -10,12 +10,12 @@ use lib.ListN.{length}
 use Rattle.complex.specs.declared.Complex.{Complex}
 use Rattle.complex.specs.Arithmetic.{𝟎}
 use Rattle.modulation.specs.declared.Block.{Block}
-use Rattle.modulation.specs.Held.{block-of, turn-at}
+use Rattle.modulation.specs.SixteenChips.{block-of, sign-pair}
 use Rattle.slot.specs.declared.Settings.{Settings}
 use Rattle.slot.specs.declared.parts.Parts.{Parts}
 use Rattle.slot.specs.Slot.{data-chips, chip}
 use Rattle.slot.specs.Tables.{settings-of, view}
-use Rattle.slot.specs.Held.{held-chip}
+use Rattle.slot.specs.FieldBlocks.{chip-by-blocks}
 use Rattle.slot.proofs.FieldBlocks.{half-is}
 use Rattle.slot.proofs.Halves.{Cuts, cut-small, ordered, first-inside, second-inside, first-half, second-half}
 use Rattle.slot.proofs.Lengths.{Lengths, lengths-of}
@@ -72,8 +72,8 @@ in-pairs c = lengths-of (began c .args .kind) .pairs
 abbrev settings : tie.After-cut3 → Settings
 settings c = let a = began c .args in settings-of (a .cell) (a .kind) (a .gains .now) (a .pairs .now) (a .sync)
 
-abbrev turns : tie.After-cut3 → Block
-turns c = parted c .before .before .before .before .turns .result
+abbrev sign-pairs : tie.After-cut3 → Block
+sign-pairs c = parted c .before .before .before .before .sign-pairs .result
 
 abbrev pub at : tie.After-cut3 → ℕ → Complex
 at c i = chip (view (settings c)) (began c .args .from + i)
@@ -81,7 +81,7 @@ at c i = chip (view (settings c)) (began c .args .from + i)
 abbrev half : tie.After-cut3 → ℕ → ℕ → ℕ → ℕ → ℕ → Complex
 half c before start q count i =
     let a = began c .args in
-    cond (ltb i count) (held-chip (a .gains .now) (a .pairs .now) (a .cell .0) (a .sync) (turns c .re) (turns c .im) before start (q + i)) 𝟎
+    cond (ltb i count) (chip-by-blocks (a .gains .now) (a .pairs .now) (a .cell .0) (a .sync) (sign-pairs c .re) (sign-pairs c .im) before start (q + i)) 𝟎
 
 abbrev pub one : tie.After-cut3 → ℕ → Complex
 one c = half c 0 0 (began c .args .from) (c .before .before .before .cut .result)
@@ -93,8 +93,8 @@ two c =
     half t (p .field1) (p .field1 + p .midamble) (c .past .result) (t .cut3 .result - t .before .before .cut2 .result)
 
 -- the rows are the cell's turns
-rows : (c : tie.After-cut3) → turns c ≡ block-of (turn-at (began c .args .cell .0))
-rows c = parted c .before .before .before .before .turns .ensures
+rows : (c : tie.After-cut3) → sign-pairs c ≡ block-of (sign-pair (began c .args .cell .0))
+rows c = parted c .before .before .before .before .sign-pairs .ensures
 
 pub in-one : (c : tie.After-cut3) (i : ℕ) → i < c .before .before .cut2 .result → one c i ≡ at c i
 unfolding view
