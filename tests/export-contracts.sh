@@ -23,7 +23,7 @@ ensured() {
 # group by its number.
 definition() {
     ensured "$1" "$2" | sed -n '1 {
-        s/.* ≡ \(outcome\|plan-outcome\|counted\) (\(.*\)) ⌝ }$/\2/; t named
+        s/.* ≡ \(outcome\|plan-outcome\|draw-outcome\) (\(.*\)) ⌝ }$/\2/; t named
         s/.* ≡ \(.*\) ⌝ }$/\1/
         : named
         s/ self/ bench/g

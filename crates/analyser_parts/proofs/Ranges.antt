@@ -15,20 +15,20 @@ use Rattle.complex.specs.Fits.{Within, Bound}
 use Rattle.complex.proofs.Integers.{abs-parts}
 use Rattle.complex.proofs.Order.{le-leZ}
 use Rattle.codes.proofs.Tests.{neither}
-use Rattle.analyser_parts.specs.Components.{largest-component, in-range, outside}
+use Rattle.analyser_parts.specs.Components.{component-limit, in-range, outside}
 
-in-range-within : (x : ℤ) → in-range x ≡ true → Within largest-component x
+in-range-within : (x : ℤ) → in-range x ≡ true → Within component-limit x
 in-range-within (pos n) e = record { size = leb-true n 100000 e }
 in-range-within (negsuc n) e = record { size = omega (arith, leb-true n 99999 (sym (and-true (leb n 99999)) ∙ e)) }
 
-at-most : (l : List ℤ) → outside l ≡ false → (n : ℕ) → Within largest-component (getD l n (pos 0))
+at-most : (l : List ℤ) → outside l ≡ false → (n : ℕ) → Within component-limit (getD l n (pos 0))
 unfolding outside
 at-most [] e n = record { size = lit≤ tt }
 at-most (x ∷ xs) e zero = in-range-within x (not-false (in-range x) (neither (not (in-range x)) (outside xs) e .0))
 at-most (x ∷ xs) e (suc n) = at-most xs (neither (not (in-range x)) (outside xs) e .1) n
 
 -- where no component is outside, each has its size
-pub not-outside : (l : List ℤ) → outside l ≡ false → Bound largest-component l
+pub not-outside : (l : List ℤ) → outside l ≡ false → Bound component-limit l
 not-outside l e = record { at = at-most l e }
 
 -- ---- the scan: what it found before place i, or what it finds from there on
@@ -46,8 +46,8 @@ unfolding outside
 scan-end l i h = rw (drop-of-length-le l {i = i} h)
 
 -- ---- components that are small enough are not refused
-within-range : {x : ℤ} → Within largest-component x → in-range x ≡ true
-within-range {x} h = simp (le-leZ (negℤ (pos largest-component)) x (omega (arith, abs-parts x, h .size)), le-leZ x (pos largest-component) (omega (arith, abs-parts x, h .size)))
+within-range : {x : ℤ} → Within component-limit x → in-range x ≡ true
+within-range {x} h = simp (le-leZ (negℤ (pos component-limit)) x (omega (arith, abs-parts x, h .size)), le-leZ x (pos component-limit) (omega (arith, abs-parts x, h .size)))
 
 outside-++ : (xs ys : List ℤ) → outside xs ≡ false → outside ys ≡ false → outside (xs ++ ys) ≡ false
 unfolding outside
@@ -58,7 +58,7 @@ outside-++ (x ∷ xs) ys e f = go (not (in-range x)) e (outside-++ xs ys)
     go true e r = e
     go false e r = r e f
 
-pub none-outside : (n : ℕ) (f : ℕ → ℤ) → ((k : ℕ) → k < n → Within largest-component (f k)) → outside (listed n f) ≡ false
+pub none-outside : (n : ℕ) (f : ℕ → ℤ) → ((k : ℕ) → k < n → Within component-limit (f k)) → outside (listed n f) ≡ false
 unfolding listed outside
 none-outside zero f h = refl
 none-outside (suc n) f h =

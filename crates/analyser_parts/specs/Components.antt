@@ -1,4 +1,4 @@
--- Document 01, "Analyser calls": refusal 17, "a component outside -100000 to 100000", and the lengths that 18 compares.
+-- Document 01, "Analyser calls": refusal 17, "a component outside -100000 to 100000", and the lengths that 18 compares in read and find.
 use lib.IntN.{ℤ, pos, negℤ}
 use Prim.Native.Nat.{ℕ}
 use mathlib.Core.Bool.{Bool, false, _&&_, _||_, not}
@@ -6,12 +6,12 @@ use mathlib.Core.List.{List, [], _∷_}
 use lib.Dec.{ltb}
 use lib.Signed.{leZ}
 
-abbrev pub largest-component : ℕ
-largest-component = 100000
+abbrev pub component-limit : ℕ
+component-limit = 100000
 
 -- x is from -100000 to 100000
 abbrev pub in-range : ℤ → Bool
-in-range x = leZ (negℤ (pos largest-component)) x && leZ x (pos largest-component)
+in-range x = leZ (negℤ (pos component-limit)) x && leZ x (pos component-limit)
 
 -- a component of the list is outside
 unfoldable pub outside : List ℤ → Bool

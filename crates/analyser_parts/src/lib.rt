@@ -1,4 +1,4 @@
-// What the analyser's calls share, and what stands beside it (`largest` is for find, `wide` for read sync); each call is a crate of its own
+// What the analyser's calls share, and `largest`, which is find's alone; each call is a crate of its own
 // (read, harden, read_sync, find). The products of
 // `correlation` ask for sizes that fit; all else is total.
 pub mod components;

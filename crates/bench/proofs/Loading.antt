@@ -15,7 +15,7 @@ use Rattle.codes.proofs.Leaves.{each-code, at-code}
 use Rattle.codes.proofs.Refused.{Passed}
 use Rattle.codes.proofs.Tests.{each-at}
 use Rattle.slot.specs.Setup.{Setup}
-use Rattle.slot.specs.Slot.{bit-count, burst-type}
+use Rattle.slot.specs.Slot.{bit-count, slot-parts}
 use Rattle.tables.specs.Bits.{has-byte-above-1}
 use Rattle.bench.specs.BenchCalls.{load-bits-refusals}
 use Rattle.bench.proofs.Accepted.{good-code}
@@ -26,7 +26,7 @@ counts : ℕ → ℕ → Bool
 counts Q k = each 4 (λ t. eqb (bit-count t Q % 2) 0)
 
 counts-test : T (each-code counts)
-unfolding each-code counts each burst-type
+unfolding each-code counts each slot-parts
 counts-test = tt
 
 module _ (Q k : ℕ) (t : is-spreading-factor Q ≡ true) (h : k < Q) where
@@ -34,7 +34,7 @@ module _ (Q k : ℕ) (t : is-spreading-factor Q ≡ true) (h : k < Q) where
   factor = subst T (sym t) tt
 
   even-count : (type : ℕ) → bit-count type Q % 2 ≡ 0
-  unfolding counts burst-type
+  unfolding counts slot-parts
   even-count type = go (decLt type 4)
     where
       go : Dec (type < 4) → bit-count type Q % 2 ≡ 0

@@ -9,12 +9,11 @@ use lib.Dec.{eqb}
 use lib.ListN.{getD}
 use Rattle.complex.specs.Buffers.{listed}
 use Rattle.codes.specs.Tree.{is-code, related}
-use Rattle.modulation.specs.Nodes.{node}
+use Rattle.modulation.specs.Nodes.{node, open-at}
 use Rattle.slot.specs.declared.Settings.{Settings}
 use Rattle.slot.specs.Setup.{is-open, is-some}
 use Rattle.slot.specs.Slot.{bit-count}
-use Rattle.slot.specs.Tables.{held-bit, held-channel, view, view-channel}
-use Rattle.tables.specs.OpenCodes.{open-at}
+use Rattle.slot.specs.View.{held-bit, held-channel, view, view-channel}
 use Rattle.tables.specs.OpenCodes.{clashes}
 use Rattle.bench.specs.BenchCalls.{related-to-open, some-code}
 

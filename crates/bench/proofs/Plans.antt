@@ -16,7 +16,7 @@ use Rattle.codes.specs.Refusals.{Answer, gives, refused, Refusal, _if_, _otherw
 use Rattle.codes.specs.Tree.{is-spreading-factor}
 use Rattle.codes.proofs.Refused.{numbered, passed, accepted, not-accepted}
 use Rattle.slot.specs.declared.Settings.{Settings}
-use Rattle.slot.specs.Tables.{view}
+use Rattle.slot.specs.View.{view}
 use Rattle.tables.specs.OpenCodes.{is-leaf-open}
 use Rattle.tables.specs.PairChanges.{with-open-cleared}
 use Rattle.tables.specs.OpenCodes.{clashes}
@@ -95,11 +95,11 @@ module _ (b : Bench) (g : List ℕ) (len : length g ≡ 31) (c : Channel) where
   fails d = not-accepted next refusals (λ z. d (sym same-number ∙ z)) ∙ ap refused same-number
 
 -- so the records are opened in turn
-in-order : (b : Bench) (g : List ℕ) → length g ≡ 31 → (place : ℕ) (cs : List Channel)
+walked-in-order : (b : Bench) (g : List ℕ) → length g ≡ 31 → (place : ℕ) (cs : List Channel)
     → settled b (with-records (all-opened g) place cs) ≡ opened-in-order place (with-opened b g) cs
 unfolding with-records settled opened-in-order
-in-order b g len place [] = refl
-in-order b g len place (c ∷ cs) = go (ℕ-discrete (open-number g c) 0) (in-order b (gains-after g c) (length-set g _ _ ∙ len) (suc place) cs)
+walked-in-order b g len place [] = refl
+walked-in-order b g len place (c ∷ cs) = go (ℕ-discrete (open-number g c) 0) (walked-in-order b (gains-after g c) (length-set g _ _ ∙ len) (suc place) cs)
   where
     then : Answer Bench → AnswerAt Bench
     then a = elim a [ refused m ↦ refused-at m place | gives next ↦ opened-in-order (suc place) next cs ]
@@ -117,7 +117,7 @@ in-order b g len place (c ∷ cs) = go (ℕ-discrete (open-number g c) 0) (in-or
 
 pub plan-settled : (b : Bench) (plan : List Channel) → settled b (with-records none-taken 0 plan) ≡ load-plan-call b plan
 unfolding with-open-cleared any is-leaf-open
-plan-settled b plan = in-order b (replicate 31 0) refl 0 plan
+plan-settled b plan = walked-in-order b (replicate 31 0) refl 0 plan
 
 -- ---- the walk along the list
 -- what `getD` gives past the end

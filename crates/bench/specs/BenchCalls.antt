@@ -14,16 +14,16 @@ use Rattle.codes.specs.Allocation.{one-or-two, bad-frame-or-half}
 use Rattle.slot.specs.declared.Settings.{Settings}
 use Rattle.slot.specs.Setup.{Setup, is-open}
 use Rattle.slot.specs.Slot.{slot-length, bit-count, chip}
-use Rattle.slot.specs.Tables.{view}
+use Rattle.slot.specs.View.{view}
 use Rattle.tables.specs.Bits.{has-byte-above-1}
 use Rattle.bench.specs.declared.Bench.{Bench}
 use Rattle.bench.specs.declared.Channel.{Channel}
 use Rattle.bench.specs.declared.CallAnswer.{CallAnswer}
 use Rattle.bench.specs.declared.CallAnswer.the-variants.{Accepted, Refused}
 use Rattle.bench.specs.declared.PlanAnswer.{PlanAnswer}
-use Rattle.bench.specs.declared.PlanAnswer.the-variants.{Loaded, Refused as NotLoaded}
+use Rattle.bench.specs.declared.PlanAnswer.the-variants.{Loaded, Refused as RefusedPlan}
 use Rattle.bench.specs.declared.DrawAnswer.{DrawAnswer}
-use Rattle.bench.specs.declared.DrawAnswer.the-variants.{Drew, Refused as NotDrawn}
+use Rattle.bench.specs.declared.DrawAnswer.the-variants.{Drew, Refused as RefusedDraw}
 use Rattle.bench.specs.Changes.{with-gain, with-bits, with-sync, no-sync, cell-settings, all-closed, with-settings}
 
 -- "the air: no slot, or a copy of the settings with a position": the copy is `sending`, and counts while `running` is not 0
@@ -37,7 +37,7 @@ fresh-settings = cell-settings (record { 0 = 0 }) 1 (replicate 2208 0)
 abbrev pub fresh : Bench
 fresh = record { settings = fresh-settings; running = 0; sending = fresh-settings; position = 0 }
 
--- what a call leaves where it finds b: "bench and buffers stay" after a refusal
+-- the bench that a call leaves where it finds b
 abbrev pub left-by : Answer Bench → Bench → Bench
 left-by r b = after r b (λ new. new)
 
@@ -109,7 +109,7 @@ abbrev pub set-gain-call : Bench → ℕ → ℕ → ℕ → Answer Bench
 set-gain-call b Q k g = set-gain-refusals (view (b .settings)) Q k g otherwise with-settings b (with-gain (b .settings) Q k g)
 
 -- Load bits (Q, k, one byte a bit). Refuses 3; 4; 7; 8 count not as above; 9 a byte above 1
--- (`has-byte-above-1`, in `tables`, whose code tests it).
+-- (`has-byte-above-1`, in `tables`, whose functions test it).
 abbrev pub load-bits-refusals : Setup → ℕ → ℕ → List ℕ → List Refusal
 load-bits-refusals s Q k bits =
     3 if not (is-spreading-factor Q) ∷
@@ -152,7 +152,7 @@ start-call b =
 -- Draw (re buffer, im buffer) writes the next chips, as many as the smaller of buffer length and chips left. Later entries stay (`written`, in
 -- draw's contract). It returns that count; after the last chip there is no slot. Length 0 returns 0. Refuses 11 no slot under way; 12 buffer
 -- lengths differ.
-pub record Draw : Type 0 where
+pub record AcceptedDraw : Type 0 where
   pub count : ℕ
   pub chips : Values
   pub bench : Bench
@@ -170,7 +170,7 @@ moved-on b m =
       position = b .position + m;
     }
 
-abbrev pub draw-call : Bench → ℕ → ℕ → Answer Draw
+abbrev pub draw-call : Bench → ℕ → ℕ → Answer AcceptedDraw
 draw-call b n n′ =
     let m = min n (slot-length - b .position) in
     draw-refusals (is-running b) n n′ otherwise
@@ -183,13 +183,13 @@ answer-of-call (Refused n) = refused n
 
 abbrev pub answer-of-plan : PlanAnswer → AnswerAt (Unit {0})
 answer-of-plan Loaded = loads tt
-answer-of-plan (NotLoaded n place) = refused-at n place
+answer-of-plan (RefusedPlan n place) = refused-at n place
 
 abbrev pub answer-of-draw : DrawAnswer → Answer ℕ
 answer-of-draw (Drew m) = gives m
-answer-of-draw (NotDrawn n) = refused n
+answer-of-draw (RefusedDraw n) = refused n
 
--- of a draw its count
-abbrev pub counted : Answer Draw → Answer ℕ
-counted (refused n) = refused n
-counted (gives d) = gives (d .count)
+-- ---- the answer of a draw: its refusal, or its count
+abbrev pub draw-outcome : Answer AcceptedDraw → Answer ℕ
+draw-outcome (refused n) = refused n
+draw-outcome (gives d) = gives (d .count)

@@ -1,4 +1,4 @@
--- The refusals that calls begin with, as the code tests them. Nothing here is document 01's: the contracts of the bench's calls do not name it.
+-- The refusals that calls begin with, as the functions test them. Nothing here is document 01's: the contracts of the bench's calls do not name it.
 use Prim.Native.Nat.{ℕ}
 use mathlib.Core.List.{List, [], _∷_}
 use mathlib.Core.Bool.{not}

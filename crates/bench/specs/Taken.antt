@@ -1,4 +1,4 @@
--- What load plan has taken of its records so far, as the code holds it. Nothing here is document 01's: the contracts of the bench's calls do not
+-- What load plan has taken of its records so far, as the functions hold it. Nothing here is document 01's: the contracts of the bench's calls do not
 -- name it.
 use Prim.Native.Nat.{ℕ, suc}
 use mathlib.Core.Bool.{cond}
@@ -7,7 +7,7 @@ use lib.Dec.{eqb}
 use lib.ListN.{replicate, set}
 use Rattle.codes.specs.Refusals.{refusal-number}
 use Rattle.modulation.specs.Nodes.{node}
-use Rattle.slot.specs.Tables.{view}
+use Rattle.slot.specs.View.{view}
 use Rattle.tables.specs.PairChanges.{with-open-cleared}
 use Rattle.bench.specs.declared.Bench.{Bench}
 use Rattle.bench.specs.declared.Channel.{Channel}

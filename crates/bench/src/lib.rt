@@ -9,7 +9,7 @@ ghost use lib.Dec.{eqb, leb};
 ghost use Rattle.complex.specs.Buffers.{written};
 ghost use Rattle.codes.specs.Refusals.{after, gives, outcome, refused};
 ghost use Rattle.bench.specs.Changes.{no-sync, with-gains, with-pairs, with-settings};
-ghost use Rattle.bench.specs.BenchCalls.{close-call, clear-sync-call, counted, draw-call, fresh, fresh-settings, left-by, load-bits-call, load-plan-call, open-call, plan-left-by, plan-outcome, set-cell-call, set-gain-call, set-sync-call, start-call, answer-of-call, answer-of-draw, answer-of-plan};
+ghost use Rattle.bench.specs.BenchCalls.{close-call, clear-sync-call, draw-outcome, draw-call, fresh, fresh-settings, left-by, load-bits-call, load-plan-call, open-call, plan-left-by, plan-outcome, set-cell-call, set-gain-call, set-sync-call, start-call, answer-of-call, answer-of-draw, answer-of-plan};
 use codes::CellParameter;
 use slot::Settings;
 use slot::Sync;
@@ -112,8 +112,8 @@ fn fresh_settings() -> Settings
     }
 }
 
-// The answer of a call whose refusal tests found this number. A call that writes tables has one way out, with or without its change, and writes them
-// back as they were where it is refused: two ways, each with a bench, would be a copy more.
+// The answer of a call whose refusal tests found this number. Such a call has one way out, with or without its change, and lays tables
+// back as they were where it is refused: two ways, each with a bench, would be a copy more. (Set cell, set sync and start return early.)
 fn answer(number: u32) -> CallAnswer
     ensures { λ r. ⌜ answer-of-call r ≡ cond (eqb number 0) (gives tt) (refused number) ⌝ }
 {
@@ -133,7 +133,7 @@ fn draw_answer(number: u32, n: usize) -> DrawAnswer
     }
 }
 
-// Each call takes the bench with `mut self`, the form that document 01 names, also where nothing is assigned to it.
+// Each of the ten calls takes the bench with `mut self`, the form that document 01 names, also where nothing is assigned to it.
 impl Bench {
     // Parameter 0, type 1, nothing open, no sync, no slot.
     pub fn fresh() -> Bench
@@ -364,7 +364,7 @@ impl Bench {
     // Writes the next chips of the slot under way, as many as the smaller of buffer length and chips left, and answers that count; later
     // entries stay, and after the last chip there is no slot. Refuses 11 no slot under way; 12 buffer lengths differ.
     pub fn draw(mut self, re: &mut [i32], im: &mut [i32]) -> Drawn
-        ensures answer { λ r. ⌜ answer-of-draw (r .answer) ≡ counted (draw-call self (length (now (re .entry))) (length (now (im .entry)))) ⌝ }
+        ensures answer { λ r. ⌜ answer-of-draw (r .answer) ≡ draw-outcome (draw-call self (length (now (re .entry))) (length (now (im .entry)))) ⌝ }
         ensures bench { λ r. ⌜ r .bench ≡ after (draw-call self (length (now (re .entry))) (length (now (im .entry)))) self (λ d. d .bench) ⌝ }
         ensures real { λ r. ⌜ now (re .exit) ≡ after (draw-call self (length (now (re .entry))) (length (now (im .entry)))) (now (re .entry)) (λ d. written (d .chips .re) (now (re .entry))) ⌝ }
         ensures imaginary { λ r. ⌜ now (im .exit) ≡ after (draw-call self (length (now (re .entry))) (length (now (im .entry)))) (now (im .entry)) (λ d. written (d .chips .im) (now (im .entry))) ⌝ }

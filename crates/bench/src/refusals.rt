@@ -7,7 +7,7 @@ ghost use lib.Dec.{eqb};
 ghost use Rattle.codes.specs.Refusals.{refusal-number};
 ghost use Rattle.slot.specs.declared.Settings.{Settings};
 ghost use Rattle.slot.specs.Slot.{bit-count};
-ghost use Rattle.slot.specs.Tables.{view};
+ghost use Rattle.slot.specs.View.{view};
 ghost use Rattle.tables.specs.OpenCodes.{clashes};
 ghost use Rattle.bench.specs.BenchCalls.{bad-gain, close-refusals, draw-refusals, load-bits-refusals, open-refusals, set-cell-refusals, set-gain-refusals, set-sync-refusals, some-code};
 ghost use Rattle.bench.specs.CodeRefusals.{code-refusals};

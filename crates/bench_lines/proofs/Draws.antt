@@ -15,8 +15,8 @@ use Rattle.complex.proofs.Lists.{length-listed}
 use Rattle.codes.specs.Refusals.{Answer, refused, gives, after}
 use Rattle.bench.specs.declared.Bench.{Bench}
 use Rattle.slot.specs.Slot.{chip}
-use Rattle.slot.specs.Tables.{view}
-use Rattle.bench.specs.BenchCalls.{Draw, counted, draw-call, moved-on, is-running}
+use Rattle.slot.specs.View.{view}
+use Rattle.bench.specs.BenchCalls.{AcceptedDraw, draw-outcome, draw-call, moved-on, is-running}
 
 -- the end of a part, and what follows the part
 part-then-rest : {A : Type 0} (k n : ℕ) (d : List A) → k ≤ n → drop k (take n d) ++ drop n d ≡ drop k d
@@ -25,10 +25,10 @@ part-then-rest (suc k) zero d l = absurd (not-suc-le-zero l)
 part-then-rest (suc k) (suc n) [] l = refl
 part-then-rest (suc k) (suc n) (x ∷ xs) l = part-then-rest k n xs (le-of-suc-le-suc l)
 
--- what a draw that answers a ensures: what is told, and the bench and the two buffers that it leaves
-abbrev pub Drawn : Answer Draw → Bench → List ℤ → List ℤ → Answer ℕ → Bench → List ℤ → List ℤ → Type 0
+-- what a draw that answers a ensures: its answer, and the bench and the two buffers that it leaves
+abbrev pub Drawn : Answer AcceptedDraw → Bench → List ℤ → List ℤ → Answer ℕ → Bench → List ℤ → List ℤ → Type 0
 Drawn a b re im answer left re′ im′ =
-    (answer ≡ counted a)
+    (answer ≡ draw-outcome a)
     × ((left ≡ after a b (λ d. d .bench)) × ((re′ ≡ after a re (λ d. written (d .chips .re) re)) × (im′ ≡ after a im (λ d. written (d .chips .im) im))))
 
 -- a part of x entries that was left as it was, or written
@@ -39,13 +39,13 @@ filled : (x : ℕ) (d p : List ℤ) {new : List ℤ} → length p ≤ x → new 
 filled x d p l e = rw e (append-assoc p (drop (length p) (take x d)) (drop x d) ∙ ap (λ (r : List ℤ). p ++ r) (part-then-rest (length p) x d l))
 
 -- an accepted draw writes at most x and y chips
-abbrev WritesAtMost : ℕ → ℕ → Answer Draw → Type 0
+abbrev WritesAtMost : ℕ → ℕ → Answer AcceptedDraw → Type 0
 WritesAtMost x y (refused k) = Unit {0}
 WritesAtMost x y (gives d) = (length (d .chips .re) ≤ x) × (length (d .chips .im) ≤ y)
 
 module _ (b : Bench) (re im : List ℤ) (x y : ℕ) {answer : Answer ℕ} {left : Bench} {re′ im′ : List ℤ} where
   -- parts of x and y entries were lent: the buffers are left as if they had been lent whole
-  lent : (a : Answer Draw) → WritesAtMost x y a
+  lent : (a : Answer AcceptedDraw) → WritesAtMost x y a
       → Drawn a b (take x re) (take y im) answer left re′ im′ → Drawn a b re im answer left (re′ ++ drop x re) (im′ ++ drop y im)
   lent (refused k) f (t, (l, (r, i))) = (t, (l, (kept x re r, kept y im i)))
   lent (gives d) f (t, (l, (r, i))) = (t, (l, (filled x re (d .chips .re) (f .0) r, filled y im (d .chips .im) (f .1) i)))
@@ -72,7 +72,7 @@ module _ (b : Bench) where
       f : ℕ → Complex
       f i = chip (view (b .sending)) (b .position + i)
 
-      d : Draw
+      d : AcceptedDraw
       d = record { count = c; chips = in-buffers c f; bench = moved-on b c }
 
       go : (t s : Bool) → eqb n m ≡ s → WritesAtMost n m (cond (not t) (refused 11) (cond (not s) (refused 12) (gives d)))
@@ -87,5 +87,5 @@ module _ (b : Bench) where
       → Drawn (draw-call b (length (take x re)) (length (take y im))) b (take x re) (take y im) answer left re′ im′
       → Drawn (draw-call b n m) b re im answer left (re′ ++ drop x re) (im′ ++ drop y im)
   relent n m x y re im {answer} {left} {re′} {im′} g h e d =
-      subst (λ (a : Answer Draw). Drawn a b re im answer left (re′ ++ drop x re) (im′ ++ drop y im)) e
-      (lent b re im x y (draw-call b x y) (within x y) (subst (λ (a : Answer Draw). Drawn a b (take x re) (take y im) answer left re′ im′) (ap₂ (draw-call b) g h) d))
+      subst (λ (a : Answer AcceptedDraw). Drawn a b re im answer left (re′ ++ drop x re) (im′ ++ drop y im)) e
+      (lent b re im x y (draw-call b x y) (within x y) (subst (λ (a : Answer AcceptedDraw). Drawn a b (take x re) (take y im) answer left re′ im′) (ap₂ (draw-call b) g h) d))

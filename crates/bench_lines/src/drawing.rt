@@ -4,7 +4,7 @@ ghost use Prim.Native.Nat.{_≤_};
 ghost use lib.ListN.{length};
 ghost use Rattle.complex.specs.Buffers.{written};
 ghost use Rattle.codes.specs.Refusals.{after};
-ghost use Rattle.bench.specs.BenchCalls.{counted, draw-call, answer-of-draw};
+ghost use Rattle.bench.specs.BenchCalls.{draw-outcome, draw-call, answer-of-draw};
 use bench::Bench;
 use bench::Drawn;
 use slot::field;
@@ -15,7 +15,7 @@ pub type SlotBuffer = [i32; 2560];
 // What a draw into buffers of n and m entries does and answers, whatever n and m are. A slot has 2,560 chips, so a longer buffer gets no more than
 // these two take.
 pub fn draw_any(b: Bench, n: u32, m: u32, re: &mut SlotBuffer, im: &mut SlotBuffer) -> Drawn
-    ensures answer { λ r. ⌜ answer-of-draw (r .answer) ≡ counted (draw-call b n m) ⌝ }
+    ensures answer { λ r. ⌜ answer-of-draw (r .answer) ≡ draw-outcome (draw-call b n m) ⌝ }
     ensures bench { λ r. ⌜ r .bench ≡ after (draw-call b n m) b (λ d. d .bench) ⌝ }
     ensures real { λ r. ⌜ now (re .exit) ≡ after (draw-call b n m) (now (re .entry)) (λ d. written (d .chips .re) (now (re .entry))) ⌝ }
     ensures imaginary { λ r. ⌜ now (im .exit) ≡ after (draw-call b n m) (now (im .entry)) (λ d. written (d .chips .im) (now (im .entry))) ⌝ }
@@ -26,7 +26,7 @@ pub fn draw_any(b: Bench, n: u32, m: u32, re: &mut SlotBuffer, im: &mut SlotBuff
 // Where n and m differ no chip is written, and any two lengths that differ are refused alike.
 fn draw_parts(b: Bench, n: u32, m: u32, re: &mut [i32], im: &mut [i32]) -> Drawn
     requires { ⌜ (2560 ≤ length (now re)) × (2560 ≤ length (now im)) ⌝ }
-    ensures answer { λ r. ⌜ answer-of-draw (r .answer) ≡ counted (draw-call b n m) ⌝ }
+    ensures answer { λ r. ⌜ answer-of-draw (r .answer) ≡ draw-outcome (draw-call b n m) ⌝ }
     ensures bench { λ r. ⌜ r .bench ≡ after (draw-call b n m) b (λ d. d .bench) ⌝ }
     ensures real { λ r. ⌜ now (re .exit) ≡ after (draw-call b n m) (now (re .entry)) (λ d. written (d .chips .re) (now (re .entry))) ⌝ }
     ensures imaginary { λ r. ⌜ now (im .exit) ≡ after (draw-call b n m) (now (im .entry)) (λ d. written (d .chips .im) (now (im .entry))) ⌝ }

@@ -14,10 +14,10 @@ use Rattle.codes.specs.declared.Allocated.{Allocated}
 use Rattle.codes.specs.declared.burst.CodeSet.{CodeSet}
 use Rattle.codes.specs.declared.burst.AllocationRow.{AllocationRow}
 
--- Code sets (A, B, D): 1 is (1, 3, 5), 2 is (10, 13, 14), 3 is (0, 6, 12), 4 is (4, 8, 15); there is no other.
 abbrev pub set-of : ℕ → ℕ → ℕ → CodeSet
 set-of A B D = record { a = A; b = B; d = D }
 
+-- Code sets (A, B, D): 1 is (1, 3, 5), 2 is (10, 13, 14), 3 is (0, 6, 12), 4 is (4, 8, 15); any other number, which no group has, gives (0, 0, 0).
 unfoldable pub code-set : ℕ → CodeSet
 code-set n = getD (set-of 0 0 0 ∷ set-of 1 3 5 ∷ set-of 10 13 14 ∷ set-of 0 6 12 ∷ set-of 4 8 15 ∷ []) n (set-of 0 0 0)
 
@@ -60,10 +60,11 @@ case-2 g frame half =
     signed (allocation-row (r / 2) (code-set (1 + g / 8)))
     f (f *ℤ minus-if (eqb (r % 2) 1)) (minus-if (eqb half 1))
 
+-- as a case and a frame must be
 unfoldable pub one-or-two : ℕ → Bool
 one-or-two n = among n (1 ∷ 2 ∷ [])
 
--- "frame not 1 or 2, half above 1, or half 1 in case 1": a case and such a frame and half are refused 15
+-- "frame not 1 or 2, half above 1, or half 1 in case 1": refused 15
 unfoldable pub bad-frame-or-half : ℕ → ℕ → ℕ → Bool
 bad-frame-or-half case frame half = not (one-or-two frame) || ltb 1 half || (eqb half 1 && eqb case 1)
 
@@ -71,6 +72,7 @@ bad-frame-or-half case frame half = not (one-or-two frame) || ltb 1 half || (eqb
 abbrev pub silent : Allocated
 silent = record { first = with-unit 0 𝟎; second = with-unit 0 𝟎; marker = with-unit 0 𝟎 }
 
+-- the codes of group g in a case, a frame and a half, with their units; silent where one of them is outside its range
 unfoldable pub allocation : ℕ → ℕ → ℕ → ℕ → Allocated
 allocation case g frame half =
     cond (not (leb 32 g) && one-or-two case && not (bad-frame-or-half case frame half))

@@ -8,21 +8,21 @@ use mathlib.Core.Bool.{Bool, not}
 use lib.Dec.{leb}
 use Rattle.complex.specs.declared.Complex.{Complex}
 use Rattle.codes.specs.declared.ElementAnswer.{ElementAnswer}
-use Rattle.codes.specs.declared.ElementAnswer.the-variants.{Element, Refused as NoElement}
+use Rattle.codes.specs.declared.ElementAnswer.the-variants.{Element, Refused as RefusedElement}
 use Rattle.codes.specs.declared.RelatedAnswer.{RelatedAnswer}
-use Rattle.codes.specs.declared.RelatedAnswer.the-variants.{Related, Refused as NoRelated}
+use Rattle.codes.specs.declared.RelatedAnswer.the-variants.{Related, Refused as RefusedRelated}
 use Rattle.codes.specs.declared.GroupAnswer.{GroupAnswer}
-use Rattle.codes.specs.declared.GroupAnswer.the-variants.{Group, Refused as NoGroup}
+use Rattle.codes.specs.declared.GroupAnswer.the-variants.{Group, Refused as RefusedGroup}
 use Rattle.codes.specs.declared.ChipAnswer.{ChipAnswer}
-use Rattle.codes.specs.declared.ChipAnswer.the-variants.{Chip, Refused as NoChip}
+use Rattle.codes.specs.declared.ChipAnswer.the-variants.{Chip, Refused as RefusedChip}
 use Rattle.codes.specs.Refusals.{Answer, refused, gives, _if_, _otherwise_}
 use Rattle.codes.specs.Tree.{is-spreading-factor, element, related}
 use Rattle.codes.specs.Scrambling.{scrambling, code-group}
 use Rattle.codes.specs.declared.Allocated.{Allocated}
 use Rattle.codes.specs.declared.AllocationAnswer.{AllocationAnswer}
-use Rattle.codes.specs.declared.AllocationAnswer.the-variants.{Codes, Refused as NoAllocation}
+use Rattle.codes.specs.declared.AllocationAnswer.the-variants.{Codes, Refused as RefusedAllocation}
 use Rattle.codes.specs.declared.StartAnswer.{StartAnswer}
-use Rattle.codes.specs.declared.StartAnswer.the-variants.{Start, Refused as NoStart}
+use Rattle.codes.specs.declared.StartAnswer.the-variants.{Start, Refused as RefusedStart}
 use Rattle.codes.specs.SyncCodes.{Cp, C, is-sync-code}
 use Rattle.codes.specs.Allocation.{allocation, one-or-two, bad-frame-or-half}
 use Rattle.codes.specs.Burst.{burst-start}
@@ -41,16 +41,16 @@ abbrev pub code-group-call : ℕ → Answer ℕ
 code-group-call p = 1 if leb 128 p ∷ [] otherwise code-group p
 
 -- scrambling chip
-abbrev pub scrambling-call : ℕ → ℕ → Answer Complex
-scrambling-call p chip = 1 if leb 128 p ∷ 16 if leb 16 chip ∷ [] otherwise scrambling p (chip + 1)
+abbrev pub scrambling-chip-call : ℕ → ℕ → Answer Complex
+scrambling-chip-call p chip = 1 if leb 128 p ∷ 16 if leb 16 chip ∷ [] otherwise scrambling p (chip + 1)
 
 -- primary sync chip
-abbrev pub primary-call : ℕ → Answer Complex
-primary-call chip = 16 if leb 256 chip ∷ [] otherwise Cp chip
+abbrev pub primary-chip-call : ℕ → Answer Complex
+primary-chip-call chip = 16 if leb 256 chip ∷ [] otherwise Cp chip
 
 -- secondary sync chip
-abbrev pub secondary-call : ℕ → ℕ → Answer Complex
-secondary-call i chip = 16 if not (is-sync-code i) ∷ 16 if leb 256 chip ∷ [] otherwise C i chip
+abbrev pub secondary-chip-call : ℕ → ℕ → Answer Complex
+secondary-chip-call i chip = 16 if not (is-sync-code i) ∷ 16 if leb 256 chip ∷ [] otherwise C i chip
 
 -- allocation: three code numbers, each with its unit
 abbrev pub allocation-call : ℕ → ℕ → ℕ → ℕ → Answer Allocated
@@ -65,24 +65,24 @@ burst-start-call g = 1 if leb 32 g ∷ [] otherwise burst-start g
 -- ---- document 01's number and values for each case of the calls' answers
 abbrev pub answer-of-element : ElementAnswer → Answer ℤ
 answer-of-element (Element s) = gives s
-answer-of-element (NoElement n) = refused n
+answer-of-element (RefusedElement n) = refused n
 
 abbrev pub answer-of-related : RelatedAnswer → Answer Bool
 answer-of-related (Related t) = gives t
-answer-of-related (NoRelated n) = refused n
+answer-of-related (RefusedRelated n) = refused n
 
 abbrev pub answer-of-group : GroupAnswer → Answer ℕ
 answer-of-group (Group g) = gives (g .0)
-answer-of-group (NoGroup n) = refused n
+answer-of-group (RefusedGroup n) = refused n
 
 abbrev pub answer-of-chip : ChipAnswer → Answer Complex
 answer-of-chip (Chip x) = gives x
-answer-of-chip (NoChip n) = refused n
+answer-of-chip (RefusedChip n) = refused n
 
 abbrev pub answer-of-allocation : AllocationAnswer → Answer Allocated
 answer-of-allocation (Codes s) = gives s
-answer-of-allocation (NoAllocation n) = refused n
+answer-of-allocation (RefusedAllocation n) = refused n
 
-abbrev pub answer-of-start : StartAnswer → Answer ℕ
-answer-of-start (Start n) = gives n
-answer-of-start (NoStart n) = refused n
+abbrev pub answer-of-burst-start : StartAnswer → Answer ℕ
+answer-of-burst-start (Start n) = gives n
+answer-of-burst-start (RefusedStart n) = refused n

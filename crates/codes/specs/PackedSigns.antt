@@ -1,4 +1,4 @@
--- How the code holds signs: a row of them as one number, and the signs of powers of j. Nothing here is document 01's: the contracts of the
+-- How the functions hold signs: a row of them as one number, and the signs of powers of j. Nothing here is document 01's: the contracts of the
 -- public calls do not name it.
 use lib.IntN.{ℤ, pos, negsuc, negℤ, _*ℤ_}
 use Prim.Native.Nat.{ℕ, _+_, _*_, _-_, _/_, _%_, _^_}
@@ -11,7 +11,7 @@ use Rattle.codes.specs.Signs.{minus-if}
 use Rattle.codes.specs.Tree.{code}
 use Rattle.codes.specs.SyncCodes.{b-signs, hadamard}
 
--- a row of signs as a binary number, the first sign first, 1 for 1 and 0 for -1
+-- a sign as a binary digit: 1 for 1 and 0 for -1
 abbrev pub digit : ℤ → ℕ
 digit (pos n) = 1
 digit (negsuc n) = 0
@@ -20,6 +20,7 @@ abbrev pub packed-after : ℕ → List ℤ → ℕ
 packed-after n [] = n
 packed-after n (s ∷ l) = packed-after (2 * n + digit s) l
 
+-- a row of signs as a binary number, the first sign first
 abbrev pub packed : List ℤ → ℕ
 packed l = packed-after 0 l
 

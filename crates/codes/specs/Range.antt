@@ -13,6 +13,7 @@ unfoldable pub any : ℕ → (ℕ → Bool) → Bool
 any zero f = false
 any (suc n) f = f n || any n f
 
+-- ---- what only the functions need
 -- the n numbers from k on
 abbrev pub numbers-from : ℕ → ℕ → List ℕ
 numbers-from k zero = []

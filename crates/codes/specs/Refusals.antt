@@ -3,7 +3,7 @@ use Prim.Native.Nat.{ℕ}
 use mathlib.Core.List.{List, [], _∷_}
 use mathlib.Core.Bool.{Bool, cond}
 
--- a refusal is document 01's number, alone
+-- a call is refused, by document 01's number alone, or gives its values
 pub data Answer (A : Type 0) : Type 0 where
   refused : ℕ → Answer A
   gives : A → Answer A
@@ -23,7 +23,7 @@ abbrev pub _otherwise_ : {A : Type 0} → List Refusal → A → Answer A
 [] otherwise a = gives a
 (r ∷ rs) otherwise a = cond (r .condition) (refused (r .number)) (rs otherwise a)
 
--- the answer of a call whose values go to buffers: its refusal, or nothing more
+-- the answer without its values, which go to buffers or are the new bench: its refusal, or nothing more
 abbrev pub outcome : {A : Type 0} → Answer A → Answer (Unit {0})
 outcome (refused n) = refused n
 outcome (gives a) = gives tt
@@ -33,13 +33,13 @@ abbrev pub after : {A B : Type 0} → Answer A → B → (A → B) → B
 after (refused n) b f = b
 after (gives a) b f = f a
 
--- ---- an answer as a C struct holds it: the refusal's number, or 0, which no list of refusals has. A field that a refusal does not
--- have is 0 then: `after r 0 ..`.
+-- ---- an answer as a C struct holds it: the refusal's number, or 0, which no list of refusals has. A value that only an accepted
+-- call has is 0 after a refusal: `after r 0 ..`.
 abbrev pub refusal-of : {A : Type 0} → Answer A → ℕ
 refusal-of (refused n) = n
 refusal-of (gives a) = 0
 
--- ---- what only the code needs
+-- ---- what only the functions need
 -- the number of the first refusal whose condition holds; 0, which is no refusal's, where none does
 abbrev pub refusal-number : List Refusal → ℕ
 refusal-number [] = 0

@@ -20,11 +20,11 @@ is-spreading-factor Q = among Q spreading-factors
 
 -- what f gives for each of the five, joined to x by an operation: x + f 1 + f 2 + f 4 + f 8 + f 16 where it is +
 abbrev pub over-factors : {A : Type 0} → (A → A → A) → A → (ℕ → A) → A
-over-factors {A} join x f = after x spreading-factors
+over-factors {A} join x f = over x spreading-factors
   where
-    after : A → List ℕ → A
-    after x [] = x
-    after x (Q ∷ Qs) = after (join x (f Q)) Qs
+    over : A → List ℕ → A
+    over x [] = x
+    over x (Q ∷ Qs) = over (join x (f Q)) Qs
 
 abbrev pub is-code : ℕ → ℕ → Bool
 is-code Q k = is-spreading-factor Q && ltb k Q
@@ -62,7 +62,7 @@ unfoldable pub related : ℕ → ℕ → ℕ → ℕ → Bool
 related Q k Q′ k′ = is-code Q k && is-code Q′ k′ && (at-or-above Q k Q′ k′ || at-or-above Q′ k′ Q k)
 
 -- ---- the tree seen from its leaves, the sixteen codes of Q 16; the law `related-overlap` joins it to the above
--- how many leaves lie below a code of factor Q; 0 where Q is no factor
+-- how many leaves are a code of factor Q or lie below it; 0 where Q is no factor
 abbrev pub width : ℕ → ℕ
 width Q = cond (is-spreading-factor Q) (16 / Q) 0
 

@@ -4,7 +4,7 @@
 // for every number (docs/DECISIONS.md has a table of those outside their range); `scrambling::signed_by_j` alone asks
 // something, for a number of at most 1 in size.
 ghost use mathlib.Core.Path.{_≡_};
-ghost use Rattle.codes.specs.Calls.{element-call, related-call, code-group-call, scrambling-call, answer-of-element, answer-of-related, answer-of-group, answer-of-chip, primary-call, secondary-call, allocation-call, burst-start-call, answer-of-allocation, answer-of-start};
+ghost use Rattle.codes.specs.Calls.{element-call, related-call, code-group-call, scrambling-chip-call, answer-of-element, answer-of-related, answer-of-group, answer-of-chip, primary-chip-call, secondary-chip-call, allocation-call, burst-start-call, answer-of-allocation, answer-of-burst-start};
 use complex::Complex;
 
 pub mod burst;
@@ -111,7 +111,7 @@ pub fn code_group(p: CellParameter) -> GroupAnswer
 
 // Chip `chip`, from 0, of a cell parameter's scrambling code. Refuses 1 parameter above 127; 16 chip past the end.
 pub fn scrambling_chip(cell: CellParameter, chip: u32) -> ChipAnswer
-    ensures { λ r. ⌜ answer-of-chip r ≡ scrambling-call (cell .0) chip ⌝ }
+    ensures { λ r. ⌜ answer-of-chip r ≡ scrambling-chip-call (cell .0) chip ⌝ }
 {
     if 128 <= cell.0 {
         return ChipAnswer::Refused(1);
@@ -124,7 +124,7 @@ pub fn scrambling_chip(cell: CellParameter, chip: u32) -> ChipAnswer
 
 // Chip `chip`, from 0, of the primary sync code. Refuses 16 chip past the end.
 pub fn primary_chip(chip: u32) -> ChipAnswer
-    ensures { λ r. ⌜ answer-of-chip r ≡ primary-call chip ⌝ }
+    ensures { λ r. ⌜ answer-of-chip r ≡ primary-chip-call chip ⌝ }
 {
     if 256 <= chip {
         return ChipAnswer::Refused(16);
@@ -134,7 +134,7 @@ pub fn primary_chip(chip: u32) -> ChipAnswer
 
 // Chip `n`, from 0, of secondary sync code `number`. Refuses 16 for a number not listed or a chip past the end.
 pub fn secondary_chip(number: u32, n: u32) -> ChipAnswer
-    ensures { λ r. ⌜ answer-of-chip r ≡ secondary-call number n ⌝ }
+    ensures { λ r. ⌜ answer-of-chip r ≡ secondary-chip-call number n ⌝ }
 {
     if !sync::is_sync_code(number) {
         return ChipAnswer::Refused(16);
@@ -164,7 +164,7 @@ pub fn allocation(case: u32, group: CodeGroup, frame: u32, half: u32) -> Allocat
 
 // The chip of the slot at which a group's burst starts. Refuses 1 group above 31.
 pub fn burst_start(g: CodeGroup) -> StartAnswer
-    ensures { λ r. ⌜ answer-of-start r ≡ burst-start-call (g .0) ⌝ }
+    ensures { λ r. ⌜ answer-of-burst-start r ≡ burst-start-call (g .0) ⌝ }
 {
     if 32 <= g.0 {
         return StartAnswer::Refused(1);

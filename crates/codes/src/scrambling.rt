@@ -174,7 +174,7 @@ pub fn sign(p: CellParameter, i: u32) -> i32
     sign_at(annex_row(p), i)
 }
 
-// s, with the sign of the conjugate of j^(i+1), which is -j, -1, j, 1 by turns.
+// s, with the sign of the conjugate of j^(i+1), which is -j, -1, j, 1, again and again.
 pub fn signed_by_j(s: i32, i: u32) -> i32
     requires { ⌜ Within 1 s ⌝ }
     ensures { λ r. ⌜ r ≡ signed-by-j s i ⌝ }

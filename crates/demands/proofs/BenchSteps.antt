@@ -6,7 +6,7 @@ use lib.ListN.{length}
 use Rattle.complex.specs.Buffers.{written}
 use Rattle.codes.specs.Refusals.{Answer, outcome, after}
 use Rattle.bench.specs.declared.Bench.{Bench}
-use Rattle.bench.specs.BenchCalls.{set-cell-call, open-call, AnswerAt, load-plan-call, plan-outcome, plan-left-by, close-call, set-gain-call, load-bits-call, set-sync-call, clear-sync-call, start-call, Draw, draw-call, counted, left-by}
+use Rattle.bench.specs.BenchCalls.{set-cell-call, open-call, AnswerAt, load-plan-call, plan-outcome, plan-left-by, close-call, set-gain-call, load-bits-call, set-sync-call, clear-sync-call, start-call, AcceptedDraw, draw-call, draw-outcome, left-by}
 use Rattle.demands.specs.Calls.{Call, set-cell, open-code, load-plan, close, set-gain, load-bits, set-sync, clear-sync, start, draw, Step, as-answer, as-plan-answer, as-draw-answer}
 
 abbrev pub bench-called : Bench → Answer Bench → Step Bench
@@ -15,10 +15,10 @@ bench-called b r = record { answer = as-answer (outcome r); next = left-by r b }
 abbrev pub bench-planned : Bench → AnswerAt Bench → Step Bench
 bench-planned b r = record { answer = as-plan-answer (plan-outcome r); next = plan-left-by r b }
 
-abbrev pub bench-drawn : Bench → List ℤ → List ℤ → Answer Draw → Step Bench
+abbrev pub bench-drawn : Bench → List ℤ → List ℤ → Answer AcceptedDraw → Step Bench
 bench-drawn b re im r =
     record {
-      answer = as-draw-answer (counted r) (after r re (λ d. written (d .chips .re) re)) (after r im (λ d. written (d .chips .im) im));
+      answer = as-draw-answer (draw-outcome r) (after r re (λ d. written (d .chips .re) re)) (after r im (λ d. written (d .chips .im) im));
       next = after r b (λ d. d .bench);
     }
 

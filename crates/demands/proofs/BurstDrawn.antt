@@ -14,10 +14,10 @@ use Rattle.codes.specs.Refusals.{gives}
 use Rattle.codes.specs.Scrambling.{code-group}
 use Rattle.codes.specs.Burst.{burst, burst-start}
 use Rattle.slot.specs.Setup.{SyncSetup, Setup}
-use Rattle.slot.specs.Slot.{over-codes, channel-chip, data-chip, sync-chip, chip, burst-type}
+use Rattle.slot.specs.Slot.{over-codes, channel-chip, data-chip, sync-chip, chip, slot-parts}
 use Rattle.slot.proofs.BurstPlace.{burst-whole, without-sync}
-use Rattle.read_sync.specs.SyncReading.{of-group, read-sync-call}
-use Rattle.demands.specs.Slots.{Slot}
+use Rattle.read_sync.specs.SyncReading.{candidate-for, read-sync-call}
+use Rattle.demands.specs.Slots.{StartedSlot}
 use Rattle.demands.specs.Fields.{ChipsDrawn, chips-from}
 use Rattle.demands.specs.Valid.{ValidSync, Valid}
 use Rattle.demands.proofs.BurstReadBack.{burst-read-back}
@@ -34,7 +34,7 @@ data-silent s h before q =
 silent : (s : Setup) → ((Q k : ℕ) → s .channel Q k ≡ none) → (x : ℕ) → chip (without-sync s) x ≡ 𝟎
 unfolding chip sync-chip
 silent s h x =
-    let t = burst-type (s .type) in
+    let t = slot-parts (s .type) in
     let second = t .field1 + t .midamble in
     either (ltb x (t .field1)) (both 0 x) (either (ltb x second) refl (either (ltb x (second + t .field2)) (both (t .field1) (x - second)) refl))
   where
@@ -45,10 +45,10 @@ silent s h x =
     both : (before q : ℕ) → data-chip (without-sync s) before q ⊕ 𝟎 ≡ 𝟎
     both before q = ⊕-𝟎 _ ∙ data-silent (without-sync s) h before q
 
-pub slot-burst : (slot : Slot) → Good slot → (y : SyncSetup)
+pub slot-burst : (slot : StartedSlot) → Good slot → (y : SyncSetup)
     → (let s = slot .settings in let g = code-group (s .cell) in let x = burst-start g in
     s .sync ≡ some y → ((Q k : ℕ) → s .channel Q k ≡ none) → ChipsDrawn slot x 256
-    → read-sync-call (y .case) (chips-from slot x 256 .re) (chips-from slot x 256 .im) ≡ gives (of-group g (y .frame) (y .half)))
+    → read-sync-call (y .case) (chips-from slot x 256 .re) (chips-from slot x 256 .im) ≡ gives (candidate-for g (y .frame) (y .half)))
 slot-burst slot good y e nothing drawn =
     ap (λ (b : Values). read-sync-call (y .case) (b .re) (b .im)) (drawn-part slot v (good .in-order) x 256 drawn ∙ in-buffers-cong 256 _ _ chip-is)
     ∙ burst-read-back (y .case) g (y .frame) (y .half) (y .gP) (y .gS) (h .case) (omega (arith, v .cell)) (h .frame-and-half) (h .P-above-0) (h .P-at-most) (h .S-above-0) (h .S-at-most)

@@ -26,7 +26,7 @@ use Rattle.codes.proofs.Tests.{T-true}
 use Rattle.analyser_parts.specs.Components.{outside}
 use Rattle.analyser_parts.proofs.Ranges.{none-outside}
 use Rattle.read_sync.specs.declared.Candidate.{Candidate}
-use Rattle.read_sync.specs.SyncReading.{of-group, candidate, candidates, share, total-share, score, winner, read-sync-call}
+use Rattle.read_sync.specs.SyncReading.{candidate-for, candidate, candidate-count, share, total-share, score, winner, read-sync-call}
 use Rattle.read_sync.proofs.Leading.{beats-all}
 use Rattle.demands.proofs.BurstCorrelations.{agreement, chips, scale, correlation-cong, score-of}
 use Rattle.demands.proofs.Candidates.{has-number, chosen, chosen-known, agrees-less}
@@ -41,10 +41,10 @@ module _ (x y : ℕ → Complex) (h : (n : ℕ) → n < 256 → x n ≡ y n) whe
   total-cong : (s : Allocated) → total-share x s ≡ total-share y s
   total-cong s = ap₂ _+ℤ_ (ap₂ _+ℤ_ (share-cong (s .first)) (share-cong (s .second))) (share-cong (s .marker))
 
-module _ (case : ℕ) (t : T (one-or-two case)) (own : ℕ) (l : own < candidates case) where
+module _ (case : ℕ) (t : T (one-or-two case)) (own : ℕ) (l : own < candidate-count case) where
   not-refused : (re im : List ℤ) → length re ≡ 256 → length im ≡ 256 → outside re ≡ false → outside im ≡ false
       → winner case (value re im) ≡ own → read-sync-call case re im ≡ gives (candidate case own)
-  not-refused re im m m′ o o′ w = rw (T-true (one-or-two case) t, m, m′, o, o′, w, ne-eqb own (candidates case) (omega arith))
+  not-refused re im m m′ o o′ w = rw (T-true (one-or-two case) t, m, m′, o, o′, w, ne-eqb own (candidate-count case) (omega arith))
 
   module _ (gP gS : ℕ) (p : 1 ≤ gP) (p′ : gP ≤ 4095) (q : 1 ≤ gS) (q′ : gS ≤ 4095) where
     chip : ℕ → Complex
@@ -53,7 +53,7 @@ module _ (case : ℕ) (t : T (one-or-two case)) (own : ℕ) (l : own < candidate
     buffers : Values
     buffers = in-buffers 256 chip
 
-    score-is : (n : ℕ) → n < candidates case
+    score-is : (n : ℕ) → n < candidate-count case
         → score case (value (buffers .re) (buffers .im)) n ≡ pos (scale gP gS) *ℤ agreement (chosen case own) (chosen case n)
     unfolding score buffers chip chosen
     score-is n k =
@@ -62,7 +62,7 @@ module _ (case : ℕ) (t : T (one-or-two case)) (own : ℕ) (l : own < candidate
 
     winner-is : winner case (value (buffers .re) (buffers .im)) ≡ own
     winner-is =
-        beats-all (candidates case) (score case (value (buffers .re) (buffers .im))) own l
+        beats-all (candidate-count case) (score case (value (buffers .re) (buffers .im))) own l
         (λ n k d. rw (score-is n k, score-is own l)
         (times-ltZ (scale gP gS) above-0 (agreement (chosen case own) (chosen case n)) (agreement (chosen case own) (chosen case own))
         (agrees-less case t own n l k d)))
@@ -83,7 +83,7 @@ module _ (case : ℕ) (t : T (one-or-two case)) (own : ℕ) (l : own < candidate
 
 -- Demand 2: "a sync burst standing alone, read with its own case, comes back as the group, frame and slot it was made for".
 pub burst-read-back : (case g frame half gP gS : ℕ) → T (one-or-two case) → g < 32 → bad-frame-or-half case frame half ≡ false → 1 ≤ gP → gP ≤ 4095 → 1 ≤ gS → gS ≤ 4095
-    → let b = in-buffers 256 (burst case g frame half gP gS) in read-sync-call case (b .re) (b .im) ≡ gives (of-group g frame half)
+    → let b = in-buffers 256 (burst case g frame half gP gS) in read-sync-call case (b .re) (b .im) ≡ gives (candidate-for g frame half)
 unfolding burst chips buffers chip chosen
 burst-read-back case g frame half gP gS t h u p p′ q q′ =
     let n = has-number case g frame half t h u in

@@ -18,7 +18,7 @@ use Rattle.codes.specs.Allocation.{allocation, one-or-two, bad-frame-or-half, c
 use Rattle.codes.proofs.Tests.{each-at, neither, same, same→eq, T-true}
 use Rattle.codes.proofs.Allocations.{AllKnown, allocation-known}
 use Rattle.read_sync.specs.declared.Candidate.{Candidate}
-use Rattle.read_sync.specs.SyncReading.{of-group, candidate, candidates, candidate-codes}
+use Rattle.read_sync.specs.SyncReading.{candidate-for, candidate, candidate-count, candidate-codes}
 use Rattle.demands.proofs.BurstCorrelations.{along, match, heard, agreement}
 
 one-or-other : (F : ℕ → Type 0) → F 1 → F 2 → (n : ℕ) → T (one-or-two n) → F n
@@ -33,28 +33,28 @@ one-or-other F x y n t = go (ℕ-discrete n 1) (ℕ-discrete n 2)
 -- ---- numbers
 pub record Numbered (case : ℕ) (c : Candidate) : Type 0 where
   pub index : ℕ
-  pub below : index < candidates case
+  pub below : index < candidate-count case
   pub is : candidate case index ≡ c
 
-equal : {g g′ f f′ h h′ : ℕ} → g ≡ g′ → f ≡ f′ → h ≡ h′ → of-group g f h ≡ of-group g′ f′ h′
-equal p q r = λ i. of-group (p i) (q i) (r i)
+equal : {g g′ f f′ h h′ : ℕ} → g ≡ g′ → f ≡ f′ → h ≡ h′ → candidate-for g f h ≡ candidate-for g′ f′ h′
+equal p q r = λ i. candidate-for (p i) (q i) (r i)
 
 either-frame : (frame : ℕ) → T (one-or-two frame) → (1 ≤ frame) × (frame ≤ 2)
 either-frame = one-or-other (λ n. (1 ≤ n) × (n ≤ 2)) (omega arith) (omega arith)
 
 module _ (g frame half : ℕ) (h : g < 32) (f : (1 ≤ frame) × (frame ≤ 2)) (l : half < 2) where
-  has-number-1 : half ≡ 0 → Numbered 1 (of-group g frame half)
+  has-number-1 : half ≡ 0 → Numbered 1 (candidate-for g frame half)
   unfolding candidate
   has-number-1 e = record { index = 2 * g + (frame - 1); below = omega arith; is = equal (omega arith) (omega arith) (omega arith) }
 
-  has-number-2 : Numbered 2 (of-group g frame half)
+  has-number-2 : Numbered 2 (candidate-for g frame half)
   unfolding candidate
   has-number-2 = record { index = 4 * g + 2 * (frame - 1) + half; below = omega arith; is = equal (omega arith) (omega arith) (omega arith) }
 
-pub has-number : (case g frame half : ℕ) → T (one-or-two case) → g < 32 → bad-frame-or-half case frame half ≡ false → Numbered case (of-group g frame half)
+pub has-number : (case g frame half : ℕ) → T (one-or-two case) → g < 32 → bad-frame-or-half case frame half ≡ false → Numbered case (candidate-for g frame half)
 unfolding bad-frame-or-half
 has-number case g frame half t h u =
-    one-or-other (λ case. (eqb half 1 && eqb case 1) ≡ false → Numbered case (of-group g frame half))
+    one-or-other (λ case. (eqb half 1 && eqb case 1) ≡ false → Numbered case (candidate-for g frame half))
     (λ v. has-number-1 g frame half h f l (zero-half v)) (λ v. has-number-2 g frame half h f l) case t (parts .1 .1)
   where
     parts : (not (one-or-two frame) ≡ false) × ((ltb 1 half ≡ false) × ((eqb half 1 && eqb case 1) ≡ false))
@@ -87,23 +87,23 @@ distinct-from : ℕ → ℕ → ℕ → Bool
 distinct-from case own n = eqb n own || ltZ (agreement (chosen case own) (chosen case n)) (pos 3)
 
 distinct : ℕ → ℕ → Bool
-distinct case own = same (agreement (chosen case own) (chosen case own)) (pos 3) && each (candidates case) (distinct-from case own)
+distinct case own = same (agreement (chosen case own) (chosen case own)) (pos 3) && each (candidate-count case) (distinct-from case own)
 
 distinct-test : T (each 64 (distinct 1) && each 128 (distinct 2))
 unfolding each distinct distinct-from chosen same agreement heard match along candidate allocation one-or-two bad-frame-or-half case-1 case-2 signed allocation-row code-set real 𝟏 𝐣 _⊗_
 distinct-test = tt
 
-distinct-at : (case : ℕ) → T (one-or-two case) → (own : ℕ) → own < candidates case → T (distinct case own)
+distinct-at : (case : ℕ) → T (one-or-two case) → (own : ℕ) → own < candidate-count case → T (distinct case own)
 distinct-at case t own l =
-    one-or-other (λ case. (own : ℕ) → own < candidates case → T (distinct case own))
+    one-or-other (λ case. (own : ℕ) → own < candidate-count case → T (distinct case own))
     (each-at 64 (distinct 1) (tests .0)) (each-at 128 (distinct 2) (tests .1)) case t own l
   where
     tests : T (each 64 (distinct 1)) × T (each 128 (distinct 2))
     tests = and-yes (each 64 (distinct 1)) (each 128 (distinct 2)) distinct-test
 
-pub agrees-less : (case : ℕ) → T (one-or-two case) → (own n : ℕ) → own < candidates case → n < candidates case → n ≢ own
+pub agrees-less : (case : ℕ) → T (one-or-two case) → (own n : ℕ) → own < candidate-count case → n < candidate-count case → n ≢ own
     → ltZ (agreement (chosen case own) (chosen case n)) (agreement (chosen case own) (chosen case own)) ≡ true
 unfolding distinct distinct-from
 agrees-less case t own n l k d =
-    let p = and-yes (same (agreement (chosen case own) (chosen case own)) (pos 3)) (each (candidates case) (distinct-from case own)) (distinct-at case t own l) in
-    rw (same→eq _ _ (p .0)) (T-true _ (rw (ne-eqb n own d) at (each-at (candidates case) (distinct-from case own) (p .1) n k)))
+    let p = and-yes (same (agreement (chosen case own) (chosen case own)) (pos 3)) (each (candidate-count case) (distinct-from case own)) (distinct-at case t own l) in
+    rw (same→eq _ _ (p .0)) (T-true _ (rw (ne-eqb n own d) at (each-at (candidate-count case) (distinct-from case own) (p .1) n k)))

@@ -20,8 +20,8 @@ use Rattle.codes.proofs.Leaves.{each-code, at-code, related-overlap}
 use Rattle.codes.proofs.Tests.{T-true, neither, none-at}
 use Rattle.modulation.specs.Nodes.{node}
 use Rattle.modulation.specs.Symbols.{pair}
-use Rattle.slot.specs.Slot.{data-chips, bit-count}
-use Rattle.slot.specs.Tables.{place, held-bit}
+use Rattle.slot.specs.Slot.{data-chip-count, bit-count}
+use Rattle.slot.specs.View.{entry-of-pair, held-bit}
 use Rattle.slot.proofs.Lengths.{lengths-of}
 use Rattle.tables.specs.Bits.{is-entry-of, pair-of-entry, pairs-with-bits}
 use Rattle.tables.proofs.Blocks.{Code, pairs-in-block}
@@ -75,22 +75,22 @@ module _ (Q k : ℕ) (c : Code Q k) where
   block = pairs-in-block Q k (c .factor) (c .below)
 
   -- where pair n stands: in block n / w
-  at : (n : ℕ) → (n % w < w) × (place Q k n / 16 ≡ n / w) × (place Q k n % 16 ≡ k * w + n % w)
+  at : (n : ℕ) → (n % w < w) × (entry-of-pair Q k n / 16 ≡ n / w) × (entry-of-pair Q k n % 16 ≡ k * w + n % w)
   at n = let l = mod-lt n (block .0) in (l, omega (arith, block), omega (arith, block))
 
   -- this entry is the code's own, and that of pair n
-  own-entry : (n : ℕ) → (is-entry-of Q k (place Q k n) ≡ true) × (pair-of-entry Q (place Q k n) ≡ n)
+  own-entry : (n : ℕ) → (is-entry-of Q k (entry-of-pair Q k n) ≡ true) × (pair-of-entry Q (entry-of-pair Q k n) ≡ n)
   own-entry n =
       let (l, e, f) = at n in
       (rw (f, digits-div k l) (eq-eqb k k refl), rw (e, f, digits-mod k l) (div-add-mod' n w))
 
   -- an unrelated code does not own it: the entries that both own are leaves below both
-  other-entry : (Q′ k′ n : ℕ) → Code Q′ k′ → related Q k Q′ k′ ≡ false → is-entry-of Q′ k′ (place Q k n) ≡ false
+  other-entry : (Q′ k′ n : ℕ) → Code Q′ k′ → related Q k Q′ k′ ≡ false → is-entry-of Q′ k′ (entry-of-pair Q k n) ≡ false
   unfolding overlap
   other-entry Q′ k′ n c′ r = ne-eqb (i / width Q′) k′ (λ e. true≢false (sym (both e) ∙ r))
     where
       i : ℕ
-      i = place Q k n % 16
+      i = entry-of-pair Q k n % 16
 
       both : i / width Q′ ≡ k′ → related Q k Q′ k′ ≡ true
       both e =
@@ -102,9 +102,9 @@ module _ (Q k : ℕ) (c : Code Q k) where
           ∙ rw (lt-ltb (k * w) (k′ * width Q′ + width Q′) (omega arith), lt-ltb (k′ * width Q′) (k * w + w) (omega arith))
 
   -- 2 w bits a block
-  count : (t : ℕ) → bit-count t Q ≡ 2 * (data-chips t / 16 * w)
+  count : (t : ℕ) → bit-count t Q ≡ 2 * (data-chip-count t / 16 * w)
   count t =
-      let d = data-chips t in
+      let d = data-chip-count t in
       let e : Q * w ≡ 16 = of-factors (λ Q. Q * width Q ≡ 16) refl refl refl refl refl Q (c .factor) in
       let h : d % 16 ≡ 0 = lengths-of t .chips in
       let s : 16 * (d / 16) ≡ Q * w * (d / 16) = ap (λ (n : ℕ). n * (d / 16)) (sym e) in
@@ -112,10 +112,10 @@ module _ (Q k : ℕ) (c : Code Q k) where
       ap (λ (n : ℕ). n / Q) r ∙ mul-div-cancel-left (2 * (d / 16 * w)) (factor-range Q (c .factor) .0)
 
   -- the pair of each of the code's bits stands in the table
-  inside : (t i : ℕ) → i < bit-count t Q → place Q k (i / 2) < 2208
+  inside : (t i : ℕ) → i < bit-count t Q → entry-of-pair Q k (i / 2) < 2208
   inside t i l =
       let e = count t in
-      let m : i / 2 / w < data-chips t / 16 = div-lt-iff-lt-mul (block .0) .1 (omega arith) in
+      let m : i / 2 / w < data-chip-count t / 16 = div-lt-iff-lt-mul (block .0) .1 (omega arith) in
       omega (arith, lengths-of t .pairs, mod-lt (i / 2) (block .0), block)
 
 -- ---- the bits read after bits were written for code (Q, k)
@@ -135,7 +135,7 @@ module _ (pairs : List ℕ) (Q k : ℕ) (c : Code Q k) (bits : List ℕ) (t i : 
   pub own-bit : ((j : ℕ) → getD bits j 0 ≤ 1) → i < bit-count t Q → held-bit new Q k i ≡ getD bits i 0
   own-bit small l =
       let own = own-entry Q k c (i / 2) in
-      ap bit (entry (place Q k (i / 2)) (inside Q k c t i l) ∙ rw (own .0, own .1))
+      ap bit (entry (entry-of-pair Q k (i / 2)) (inside Q k c t i l) ∙ rw (own .0, own .1))
       ∙ go (small (2 * (i / 2))) (small (2 * (i / 2) + 1)) (ℕ-discrete (i % 2) 0)
     where
       given : ℕ → ℕ
@@ -148,4 +148,4 @@ module _ (pairs : List ℕ) (Q k : ℕ) (c : Code Q k) (bits : List ℕ) (t i : 
   -- of an unrelated code the old ones
   pub other-bit : (Q′ k′ : ℕ) → Code Q′ k′ → related Q′ k′ Q k ≡ false → i < bit-count t Q′ → held-bit new Q′ k′ i ≡ held-bit pairs Q′ k′ i
   other-bit Q′ k′ c′ r l =
-      ap bit (entry (place Q′ k′ (i / 2)) (inside Q′ k′ c′ t i l) ∙ rw (other-entry Q′ k′ c′ Q k (i / 2) c r))
+      ap bit (entry (entry-of-pair Q′ k′ (i / 2)) (inside Q′ k′ c′ t i l) ∙ rw (other-entry Q′ k′ c′ Q k (i / 2) c r))

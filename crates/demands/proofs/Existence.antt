@@ -14,10 +14,10 @@ use Rattle.bench.specs.declared.Planned.{Planned}
 use Rattle.bench.specs.declared.CallAnswer.{CallAnswer}
 use Rattle.bench.specs.declared.CallAnswer.the-variants.{Accepted, Refused}
 use Rattle.bench.specs.declared.PlanAnswer.{PlanAnswer}
-use Rattle.bench.specs.declared.PlanAnswer.the-variants.{Loaded, Refused as NotLoaded}
+use Rattle.bench.specs.declared.PlanAnswer.the-variants.{Loaded, Refused as RefusedPlan}
 use Rattle.bench.specs.declared.DrawAnswer.{DrawAnswer}
-use Rattle.bench.specs.declared.DrawAnswer.the-variants.{Drew, Refused as NotDrawn}
-use Rattle.bench.specs.BenchCalls.{AnswerAt, refused-at, loads, answer-of-call, answer-of-plan, answer-of-draw, set-cell-call, open-call, load-plan-call, plan-outcome, plan-left-by, close-call, set-gain-call, load-bits-call, set-sync-call, clear-sync-call, start-call, draw-call, counted, left-by}
+use Rattle.bench.specs.declared.DrawAnswer.the-variants.{Drew, Refused as RefusedDraw}
+use Rattle.bench.specs.BenchCalls.{AnswerAt, refused-at, loads, answer-of-call, answer-of-plan, answer-of-draw, set-cell-call, open-call, load-plan-call, plan-outcome, plan-left-by, close-call, set-gain-call, load-bits-call, set-sync-call, clear-sync-call, start-call, draw-call, draw-outcome, left-by}
 use Rattle.read.specs.declared.ReadAnswer.{ReadAnswer}
 use Rattle.read.specs.declared.ReadAnswer.the-variants.{Read, Refused as NotRead}
 use Rattle.read.specs.Reading.{read-call, answer-of-read}
@@ -27,7 +27,7 @@ use Rattle.harden.specs.Hardening.{harden-call, answer-of-harden}
 use Rattle.read_sync.specs.declared.Candidate.{Candidate}
 use Rattle.read_sync.specs.declared.SyncAnswer.{SyncAnswer}
 use Rattle.read_sync.specs.declared.SyncAnswer.the-variants.{Burst, Refused as NotFound}
-use Rattle.read_sync.specs.SyncReading.{read-sync-call, answer-of-sync}
+use Rattle.read_sync.specs.SyncReading.{read-sync-call, answer-of-read-sync}
 use Rattle.demands.specs.Calls.{Call, set-cell, open-code, load-plan, close, set-gain, load-bits, set-sync, clear-sync, start, draw, Step}
 use Rattle.demands.specs.Runs.{Ran, by-set-cell, by-open, by-load-plan, by-load-records, by-close, by-set-gain, by-load-bits, by-set-sync, by-clear-sync, by-start, by-draw}
 use Rattle.demands.specs.AnalyserRuns.{Output, RanRead, by-read, RanHarden, by-harden, RanReadSync, by-read-sync}
@@ -43,11 +43,11 @@ call-case (refused n) = record { case = Refused n; is = refl }
 call-case (gives a) = record { case = Accepted; is = refl }
 
 plan-case : (a : AnswerAt (Unit {0})) → Case PlanAnswer (AnswerAt (Unit {0})) answer-of-plan a
-plan-case (refused-at n place) = record { case = NotLoaded n place; is = refl }
+plan-case (refused-at n place) = record { case = RefusedPlan n place; is = refl }
 plan-case (loads a) = record { case = Loaded; is = refl }
 
 draw-case : (a : Answer ℕ) → Case DrawAnswer (Answer ℕ) answer-of-draw a
-draw-case (refused n) = record { case = NotDrawn n; is = refl }
+draw-case (refused n) = record { case = RefusedDraw n; is = refl }
 draw-case (gives m) = record { case = Drew m; is = refl }
 
 read-case : (a : Answer (Unit {0})) → Case ReadAnswer (Answer (Unit {0})) answer-of-read a
@@ -58,7 +58,7 @@ harden-case : (a : Answer (Unit {0})) → Case HardenAnswer (Answer (Unit {0})) 
 harden-case (refused n) = record { case = NotHardened n; is = refl }
 harden-case (gives a) = record { case = Hardened; is = refl }
 
-sync-case : (a : Answer Candidate) → Case SyncAnswer (Answer Candidate) answer-of-sync a
+sync-case : (a : Answer Candidate) → Case SyncAnswer (Answer Candidate) answer-of-read-sync a
 sync-case (refused n) = record { case = NotFound n; is = refl }
 sync-case (gives c) = record { case = Burst c; is = refl }
 
@@ -94,9 +94,9 @@ module _ (b : Bench) where
       let a = draw-call b (length re) (length im) in (
         _,
         by-draw ([], ([], tt)) (lent re) (lent im)
-            (record { answer = draw-case (counted a) .case; bench = after a b (λ d. d .bench) })
+            (record { answer = draw-case (draw-outcome a) .case; bench = after a b (λ d. d .bench) })
             (b, (lent (after a re (λ d. written (d .chips .re) re)), (lent (after a im (λ d. written (d .chips .im) im)), tt)))
-            (draw-case (counted a) .is, (refl, (refl, refl))),
+            (draw-case (draw-outcome a) .is, (refl, (refl, refl))),
       )
 
   -- a host's load plan

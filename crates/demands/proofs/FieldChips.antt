@@ -23,10 +23,10 @@ use Rattle.codes.proofs.Factors.{of-all}
 use Rattle.codes.proofs.Allocations.{allocation-known}
 use Rattle.slot.specs.declared.parts.Parts.{Parts}
 use Rattle.slot.specs.Setup.{SyncSetup, Setup}
-use Rattle.slot.specs.Slot.{burst-type, data-chip, sync-chip, chip}
+use Rattle.slot.specs.Slot.{slot-parts, data-chip, sync-chip, chip}
 use Rattle.orthogonality.proofs.Unrelated.{Unrelated}
 use Rattle.orthogonality.proofs.DataSizes.{data-within}
-use Rattle.demands.specs.Fields.{Field, field-1, field-2, field-length, field-start, field-before, entries-from}
+use Rattle.demands.specs.Fields.{Field, field-1, field-2, field-length, field-start, chips-before, entries-from}
 use Rattle.demands.specs.Valid.{ValidSync, Valid}
 use Rattle.demands.proofs.BurstCorrelations.{chips}
 use Rattle.demands.proofs.BurstSizes.{chips-within}
@@ -54,11 +54,11 @@ readable-row : {n : ℕ} → T (ltb 0 n) → T (leb n 1104) → n % 16 ≡ 0 →
 readable-row a b c = record { some = lit< a; at-most = lit≤ b; blocks = c }
 
 pub readable : (s : Setup) → among (s .type) (1 ∷ 2 ∷ 3 ∷ []) ≡ true → (f : Field) → Readable (field-length s f)
-unfolding burst-type
+unfolding slot-parts
 readable s e field-1 =
-    of-all (λ t. Readable (burst-type t .field1)) (1 ∷ 2 ∷ 3 ∷ []) (readable-row tt tt refl, (readable-row tt tt refl, (readable-row tt tt refl, tt))) (s .type) e
+    of-all (λ t. Readable (slot-parts t .field1)) (1 ∷ 2 ∷ 3 ∷ []) (readable-row tt tt refl, (readable-row tt tt refl, (readable-row tt tt refl, tt))) (s .type) e
 readable s e field-2 =
-    of-all (λ t. Readable (burst-type t .field2)) (1 ∷ 2 ∷ 3 ∷ []) (readable-row tt tt refl, (readable-row tt tt refl, (readable-row tt tt refl, tt))) (s .type) e
+    of-all (λ t. Readable (slot-parts t .field2)) (1 ∷ 2 ∷ 3 ∷ []) (readable-row tt tt refl, (readable-row tt tt refl, (readable-row tt tt refl, tt))) (s .type) e
 
 -- ---- what stands in a field
 -- the sync burst where it falls, by the chip's number in the field
@@ -67,11 +67,11 @@ field-sync s f q = sync-chip (s .cell) (s .sync) (field-start s f + q)
 
 -- "The slot's chip is the sum over open channels, plus the sync burst where it falls."
 pub chip-in-field : (s : Setup) (f : Field) (q : ℕ) → q < field-length s f
-    → chip s (field-start s f + q) ≡ data-chip s (field-before s f) q ⊕ field-sync s f q
+    → chip s (field-start s f + q) ≡ data-chip s (chips-before s f) q ⊕ field-sync s f q
 unfolding chip
-chip-in-field s field-1 q l = rw (zero-add, lt-ltb q (burst-type (s .type) .field1) l, zero-add)
+chip-in-field s field-1 q l = rw (zero-add, lt-ltb q (slot-parts (s .type) .field1) l, zero-add)
 chip-in-field s field-2 q l =
-    let t = burst-type (s .type) in
+    let t = slot-parts (s .type) in
     let second = t .field1 + t .midamble in
     let x = second + q in
     let e : x - second ≡ q = omega arith in
@@ -118,7 +118,7 @@ chip-within s v x =
     (either-within (ltb x second) (nothing-within 94185) (either-within (ltb x (second + t .field2)) (field-chip-within s v _ _ _) (nothing-within 94185)))
   where
     t : Parts
-    t = burst-type (s .type)
+    t = slot-parts (s .type)
 
     second : ℕ
     second = t .field1 + t .midamble

@@ -26,8 +26,8 @@ use Rattle.slot.specs.Setup.{SyncSetup, Setup}
 use Rattle.slot.specs.Slot.{data-chip, falls-on, sync-chip, chip}
 use Rattle.analyser_parts.proofs.Ranges.{none-outside}
 use Rattle.read.specs.Reading.{reading, read-call}
-use Rattle.demands.specs.Slots.{Slot, InOrder}
-use Rattle.demands.specs.Fields.{Field, field-length, field-start, field-before, entries-from, ChipsDrawn, DrawnWhole, chips-from, drawn-field, reading-count, Suffice, no-burst}
+use Rattle.demands.specs.Slots.{StartedSlot, InOrder}
+use Rattle.demands.specs.Fields.{Field, field-length, field-start, chips-before, entries-from, ChipsDrawn, DrawnWhole, chips-from, drawn-field, reading-count, Suffice, no-burst}
 use Rattle.demands.specs.Valid.{Valid}
 use Rattle.demands.proofs.Readings.{reading-additive}
 use Rattle.demands.proofs.Entries.{code-of}
@@ -93,12 +93,12 @@ read-of s Q k field out = read-call (s .cell) Q k (field .re) (field .im) (lengt
 
 -- what the data of a field reads, and what the burst reads
 abbrev pub of-data : Setup → Field → ℕ → ℕ → ℕ → Complex
-of-data s f Q k = reading (s .cell) Q k (data-chip s (field-before s f))
+of-data s f Q k = reading (s .cell) Q k (data-chip s (chips-before s f))
 
 abbrev pub of-burst : Setup → Field → ℕ → ℕ → ℕ → Complex
 of-burst s f Q k = reading (s .cell) Q k (field-sync s f)
 
-module _ (slot : Slot) (v : Valid (slot .settings)) (o : InOrder slot) where
+module _ (slot : StartedSlot) (v : Valid (slot .settings)) (o : InOrder slot) where
   abbrev s : Setup
   s = slot .settings
 
@@ -124,8 +124,8 @@ module _ (slot : Slot) (v : Valid (slot .settings)) (o : InOrder slot) where
 
     parts : (n : ℕ) → n < count → reading (s .cell) Q k (λ q. chip s (field-start s f + q)) n ≡ of-data s f Q k n ⊕ of-burst s f Q k n
     parts n l =
-        field-cong (s .cell) Q k (field-length s f) _ (λ q. data-chip s (field-before s f) q ⊕ field-sync s f q) (chip-in-field s f) n l
-        ∙ reading-additive (s .cell) Q k (data-chip s (field-before s f)) (field-sync s f) n
+        field-cong (s .cell) Q k (field-length s f) _ (λ q. data-chip s (chips-before s f) q ⊕ field-sync s f q) (chip-in-field s f) n l
+        ∙ reading-additive (s .cell) Q k (data-chip s (chips-before s f)) (field-sync s f) n
 
     -- read accepts every field that was drawn whole, and burst and data add up
     pub reads : DrawnWhole slot f → (out : Values) → Suffice s f Q out

@@ -22,26 +22,26 @@ use Rattle.codes.proofs.Factors.{of-all, of-factors, factor-range}
 use Rattle.codes.proofs.Tests.{each-all}
 use Rattle.modulation.specs.Symbols.{pair, symbol}
 use Rattle.slot.specs.Setup.{ChannelSetup, Setup, is-some}
-use Rattle.slot.specs.Slot.{burst-type, bit-count}
+use Rattle.slot.specs.Slot.{slot-parts, bit-count}
 use Rattle.tables.proofs.Blocks.{Code}
 use Rattle.harden.specs.Hardening.{hard-pair, hard-bit, harden-call}
 use Rattle.orthogonality.proofs.Hardened.{hardened}
-use Rattle.demands.specs.Fields.{Field, field-1, field-2, field-length, field-before, entries-from, reading-count, own-symbol, own-readings, no-burst, field-bits}
+use Rattle.demands.specs.Fields.{Field, field-1, field-2, field-length, chips-before, entries-from, reading-count, own-symbol, own-readings, no-burst, field-bits}
 use Rattle.demands.specs.Valid.{ValidChannel, Valid}
 use Rattle.demands.proofs.Entries.{code-of}
 
 -- ---- the bits of the two fields are those of the channel
 -- a channel's bits are two for each reading of both fields
 Split : ℕ → ℕ → Type 0
-Split t Q = 2 * (burst-type t .field1 / Q) + 2 * (burst-type t .field2 / Q) ≡ bit-count t Q
+Split t Q = 2 * (slot-parts t .field1 / Q) + 2 * (slot-parts t .field2 / Q) ≡ bit-count t Q
 
 split : (t Q : ℕ) → among t (1 ∷ 2 ∷ 3 ∷ []) ≡ true → is-spreading-factor Q ≡ true → Split t Q
-unfolding Split burst-type
+unfolding Split slot-parts
 split t Q e f = of-all (λ t. (Q : ℕ) → is-spreading-factor Q ≡ true → Split t Q) (1 ∷ 2 ∷ 3 ∷ [])
     (of-factors (Split 1) refl refl refl refl refl, (of-factors (Split 2) refl refl refl refl refl, (of-factors (Split 3) refl refl refl refl refl, tt))) t e Q f
 
 module _ (s : Setup) (Q : ℕ) (c : ChannelSetup) (t : among (s .type) (1 ∷ 2 ∷ 3 ∷ []) ≡ true) (q : is-spreading-factor Q ≡ true) (count : length (c .bits) ≡ bit-count (s .type) Q) where
-  enough : (f : Field) → 2 * (field-before s f / Q) + 2 * reading-count s f Q ≤ length (c .bits)
+  enough : (f : Field) → 2 * (chips-before s f / Q) + 2 * reading-count s f Q ≤ length (c .bits)
   unfolding Split
   enough field-1 = omega (arith, split (s .type) Q t q, count, zero-div Q)
   enough field-2 = omega (arith, split (s .type) Q t q, count)
@@ -96,8 +96,8 @@ module _ (s : Setup) (v : Valid s) (Q k : ℕ) (c : ChannelSetup) (e : s .channe
 
       size : length (field-bits s f Q c) ≡ 2 * N
       size =
-          length-take-le (2 * N) (drop (2 * (field-before s f / Q)) (c .bits))
-          (omega (arith, length-drop (2 * (field-before s f / Q)) (c .bits), enough s Q c (v .type) (code .factor) (h .count) f))
+          length-take-le (2 * N) (drop (2 * (chips-before s f / Q)) (c .bits))
+          (omega (arith, length-drop (2 * (chips-before s f / Q)) (c .bits), enough s Q c (v .type) (code .factor) (h .count) f))
 
       all : listed (2 * N) (hard-bit (value (in-buffers N own .re) (in-buffers N own .im))) ≡ field-bits s f Q c
       all =
@@ -106,8 +106,8 @@ module _ (s : Setup) (v : Valid s) (Q k : ℕ) (c : ChannelSetup) (e : s .channe
           let g : b < 2 * N = omega (arith, l, length-listed (hard-bit (value (in-buffers N own .re) (in-buffers N own .im))) (2 * N)) in
           listed-at (hard-bit (value (in-buffers N own .re) (in-buffers N own .im))) 0 (2 * N) b g
           ∙ ap (λ (y : Complex). cond (eqb (b % 2) 0) (hard-pair y / 2) (hard-pair y % 2)) (value-in-buffers N own (b / 2) (omega arith))
-          ∙ own-bit Q (c .gain) (factor-range Q (code .factor) .0) (h .above-0) (c .bits) (h .bit) (field-before s f / Q) b
-          ∙ sym (getD-take (2 * N) (drop (2 * (field-before s f / Q)) (c .bits)) b 0 g ∙ getD-drop (2 * (field-before s f / Q)) (c .bits) b 0))
+          ∙ own-bit Q (c .gain) (factor-range Q (code .factor) .0) (h .above-0) (c .bits) (h .bit) (chips-before s f / Q) b
+          ∙ sym (getD-take (2 * N) (drop (2 * (chips-before s f / Q)) (c .bits)) b 0 g ∙ getD-drop (2 * (chips-before s f / Q)) (c .bits) b 0))
 
 -- a slot without sync has no burst chip anywhere
 pub no-burst-anywhere : (s : Setup) → s .sync ≡ none → (x n : ℕ) → no-burst s x n ≡ true

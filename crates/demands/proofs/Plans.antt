@@ -16,7 +16,7 @@ use Rattle.modulation.specs.Nodes.{node}
 use Rattle.slot.specs.declared.Settings.{Settings}
 use Rattle.slot.specs.Setup.{Setup, is-some, is-open}
 use Rattle.slot.specs.Slot.{bit-count}
-use Rattle.slot.specs.Tables.{view}
+use Rattle.slot.specs.View.{view}
 use Rattle.bench.specs.declared.Bench.{Bench}
 use Rattle.bench.specs.declared.Channel.{Channel}
 use Rattle.bench.specs.Changes as Tables

@@ -22,8 +22,8 @@ use Rattle.analyser_parts.proofs.Ranges.{none-outside}
 use Rattle.orthogonality.proofs.Unrelated.{Free}
 use Rattle.orthogonality.proofs.DataReadings.{own-data, unrelated-data}
 use Rattle.demands.specs.Reference.{sync-changed}
-use Rattle.demands.specs.Slots.{Slot}
-use Rattle.demands.specs.Fields.{Field, field-length, field-start, field-before, DrawnWhole, drawn-field, reading-count, Suffice, own-readings, unrelated, zero-readings, no-burst, burst-field, quiet-field, added}
+use Rattle.demands.specs.Slots.{StartedSlot}
+use Rattle.demands.specs.Fields.{Field, field-length, field-start, chips-before, DrawnWhole, drawn-field, reading-count, Suffice, own-readings, unrelated, zero-readings, no-burst, burst-field, quiet-field, added}
 use Rattle.demands.specs.Valid.{Valid}
 use Rattle.demands.proofs.Entries.{code-of, no-code-passes}
 use Rattle.demands.proofs.Valid.{sync-cleared-valid}
@@ -39,13 +39,13 @@ module _ (s : Setup) (v : Valid s) (f : Field) (Q k : ℕ) where
   pub own-of-data : (c : ChannelSetup) → s .channel Q k ≡ some c → in-buffers (reading-count s f Q) (of-data s f Q k) ≡ own-readings s f Q c
   own-of-data c e =
       in-buffers-cong (reading-count s f Q) _ _
-      (λ n l. own-data s (v .cell) (field-before s f) Q k (is-code-of c e) c e (λ Q′ k′ c′ o r. v .apart Q k Q′ k′ (ap is-some e) o r) n)
+      (λ n l. own-data s (v .cell) (chips-before s f) Q k (is-code-of c e) c e (λ Q′ k′ c′ o r. v .apart Q k Q′ k′ (ap is-some e) o r) n)
 
   free : unrelated s Q k ≡ true → Free s Q k
   free e Q′ k′ c o = rw o at (no-code-passes (λ Q′ k′. is-open s Q′ k′ && related Q′ k′ Q k) (not-true _ e) Q′ k′ (code-of Q′ k′ c))
 
   pub zero-of-data : is-code Q k ≡ true → unrelated s Q k ≡ true → in-buffers (reading-count s f Q) (of-data s f Q k) ≡ zero-readings s f Q
-  zero-of-data c e = in-buffers-cong (reading-count s f Q) _ _ (λ n l. unrelated-data s (field-before s f) Q k c (free e) n)
+  zero-of-data c e = in-buffers-cong (reading-count s f Q) _ _ (λ n l. unrelated-data s (chips-before s f) Q k c (free e) n)
 
   -- a burst that does not fall into the field adds nothing
   no-burst-reading : no-burst s (field-start s f) (field-length s f) ≡ true → (n : ℕ) → n < reading-count s f Q → of-data s f Q k n ⊕ of-burst s f Q k n ≡ of-data s f Q k n
@@ -65,14 +65,14 @@ module _ (s : Setup) (v : Valid s) (f : Field) (Q k : ℕ) (c : is-code Q k ≡ 
       read-gives (s .cell) Q k (field-length s f) (λ q. chip (sync-changed s none) (field-start s f + q)) (v .cell) c (readable s (v .type) f)
       (λ q l. chip-within (sync-changed s none) (sync-cleared-valid s v) _) (length (out .re)) (length (out .im)) (w .re) (w .im)
       ∙ ap gives (in-buffers-cong (reading-count s f Q) _ _
-      (field-cong (s .cell) Q k (field-length s f) _ _ (λ q l. chip-in-field (sync-changed s none) f q l ∙ ⊕-𝟎 (data-chip s (field-before s f) q))))
+      (field-cong (s .cell) Q k (field-length s f) _ _ (λ q l. chip-in-field (sync-changed s none) f q l ∙ ⊕-𝟎 (data-chip s (chips-before s f) q))))
 
   pub burst-reads : read-of s Q k (burst-field s f) out ≡ gives (in-buffers (reading-count s f Q) (of-burst s f Q k))
   burst-reads =
       read-gives (s .cell) Q k (field-length s f) (field-sync s f) (v .cell) c (readable s (v .type) f)
       (λ q l. both-more (sync-within s v _) 94185 (lit≤ tt)) (length (out .re)) (length (out .im)) (w .re) (w .im)
 
-module _ (slot : Slot) (g : Good slot) where
+module _ (slot : StartedSlot) (g : Good slot) where
   abbrev s : Setup
   s = slot .settings
 

@@ -19,12 +19,12 @@ use Rattle.modulation.specs.Nodes.{node}
 use Rattle.slot.specs.declared.Settings.{Settings}
 use Rattle.slot.specs.Setup.{Setup, is-some, is-open}
 use Rattle.slot.specs.Slot.{slot-length, bit-count, chip}
-use Rattle.slot.specs.Tables.{view}
+use Rattle.slot.specs.View.{view}
 use Rattle.tables.proofs.Blocks.{is-bit}
 use Rattle.bench.specs.declared.Bench.{Bench}
 use Rattle.bench.specs.declared.Channel.{Channel}
 use Rattle.bench.specs.Changes as Tables
-use Rattle.bench.specs.BenchCalls.{is-running, fresh, set-cell-refusals, open-refusals, bad-gain, refused-at, opened-in-order, close-refusals, set-gain-refusals, load-bits-refusals, set-sync-refusals, start-refusals, Draw, draw-refusals, moved-on}
+use Rattle.bench.specs.BenchCalls.{is-running, fresh, set-cell-refusals, open-refusals, bad-gain, refused-at, opened-in-order, close-refusals, set-gain-refusals, load-bits-refusals, set-sync-refusals, start-refusals, AcceptedDraw, draw-refusals, moved-on}
 use Rattle.bench.proofs.Accepted.{good-code, gain-range}
 use Rattle.demands.specs.Calls.{Call, set-cell, open-code, load-plan, close, set-gain, load-bits, set-sync, clear-sync, start, draw, drew, Step}
 use Rattle.demands.specs.Reference.{Reference, fresh-reference, opened, closed, gain-set, bits-loaded, sync-changed, records-opened, under-way, entry-step, plan-step, start-step, copy-chip, draw-step, reference-step, arguments}
@@ -143,7 +143,7 @@ left-in-buffers m f re im =
     ap₂ (λ (x y : List ℤ). record { re = x; im = y }) (sym (take-written (λ i. f i .re) re m)) (sym (take-written (λ i. f i .im) im m))
 
 -- what a draw of m chips gives
-abbrev draw-of : Bench → ℕ → Draw
+abbrev draw-of : Bench → ℕ → AcceptedDraw
 draw-of b m = record { count = m; chips = in-buffers m (λ i. chip (view (b .sending)) (b .position + i)); bench = moved-on b m }
 
 -- ---- one call
@@ -233,7 +233,7 @@ module _ (b : Bench) (v : ValidBench b) where
       let m : ℕ = min (length re) (slot-length - b .position) in
       let l : b .position + m ≤ slot-length = omega (arith, v .model .at-most) in
       rw (air b)
-      (alike (λ (x : Answer (Unit {0})) (y : Answer Draw). Steps (draw-step (reference-of b) m x) (bench-drawn b re im y)) (λ n. record { same = refl; valid = v })
+      (alike (λ (x : Answer (Unit {0})) (y : Answer AcceptedDraw). Steps (draw-step (reference-of b) m x) (bench-drawn b re im y)) (λ n. record { same = refl; valid = v })
       (draw-refusals (is-running b) (length re) (length im)) tt (draw-of b m)
       (λ p. record { same = chips-drawn re im m l (not-false _ (p .0)); valid = moved-valid m l }))
 

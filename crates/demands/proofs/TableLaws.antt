@@ -19,7 +19,7 @@ use Rattle.modulation.specs.Nodes.{node}
 use Rattle.slot.specs.declared.Settings.{Settings}
 use Rattle.slot.specs.Setup.{ChannelSetup, Setup, is-some, is-open}
 use Rattle.slot.specs.Slot.{bit-count}
-use Rattle.slot.specs.Tables.{held-bit, held-channel, view-sync, view-channel, view}
+use Rattle.slot.specs.View.{held-bit, held-channel, view-sync, view-channel, view}
 use Rattle.tables.specs.Bits.{pairs-with-bits}
 use Rattle.tables.proofs.Blocks.{Code}
 use Rattle.bench.specs.BenchCalls.{related-to-open}

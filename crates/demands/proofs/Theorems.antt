@@ -20,13 +20,13 @@ use Rattle.bench.specs.BenchCalls.{fresh}
 use Rattle.analyser_parts.specs.Components.{outside}
 use Rattle.harden.specs.Hardening.{harden-call}
 use Rattle.read_sync.specs.declared.Candidate.{Candidate}
-use Rattle.read_sync.specs.SyncReading.{of-group}
+use Rattle.read_sync.specs.SyncReading.{candidate-for}
 use Rattle.demands.specs.Calls.{Call, draw, refused-by, Step}
 use Rattle.demands.specs.Reference.{Reference, fresh-reference, arguments, answers-by, left-after}
 use Rattle.demands.specs.Runs.{Ran, RunFrom, ended, _then_, Run, answers-in, left-in}
 use Rattle.demands.specs.AnalyserRuns.{Output, RanReadSync, wrote}
-use Rattle.demands.specs.Slots.{Slot, slots, InOrder, NothingLeft}
-use Rattle.demands.specs.Fields.{Field, field-length, field-start, ChipsDrawn, DrawnWhole, chips-from, drawn-field, reading-count, FieldRead, readings, own-readings, unrelated, zero-readings, no-burst, burst-field, quiet-field, added, BurstAdds, power-of-16, power-due, FieldHardened, HardBits, AllHardBits}
+use Rattle.demands.specs.Slots.{StartedSlot, started-slots, InOrder, NothingLeft}
+use Rattle.demands.specs.Fields.{Field, field-length, field-start, ChipsDrawn, DrawnWhole, chips-from, drawn-field, reading-count, FieldRead, readings, own-readings, unrelated, zero-readings, no-burst, burst-field, quiet-field, added, BurstAdds, power-of-16-chips, power-due, FieldHardened, HardBits, AllHardBits}
 use Rattle.demands.specs.Valid.{Valid}
 use Rattle.demands.proofs.Steps.{reference-of, ValidBench, ran-steps}
 use Rattle.demands.proofs.BurstDrawn.{slot-burst}
@@ -72,16 +72,16 @@ module _ (run : Run) where
   bench-valid = run-holds run .valid
 
   -- "A draw is refused 11 exactly when no start was accepted yet or all 2,560 chips of the last accepted one are out."
-  pub refused-11 : (re im : List ℤ) (y : Step Bench) → Ran (left-in run) (draw re im) y → (y .answer ≡ refused-by 11) ↔ NothingLeft (slots run)
+  pub refused-11 : (re im : List ℤ) (y : Step Bench) → Ran (left-in run) (draw re im) y → (y .answer ≡ refused-by 11) ↔ NothingLeft (started-slots run)
   unfolding arguments
   refused-11 re im y h =
       let b = left-in run in
       let r = reference-of b in
       rw (← (ap (λ (z : Step Reference). z .answer) (ran-steps b bench-valid h .same)))
-      (draw-11 (r .settings) (r .sending) (r .sent) (bench-valid .model) (slots run) (run-recorded run) (length re) (length im))
+      (draw-11 (r .settings) (r .sending) (r .sent) (bench-valid .model) (started-slots run) (run-recorded run) (length re) (length im))
 
   -- ---- every accepted start, whatever calls fall between
-  module _ (slot : Slot) (i : List·Memᴰ slot (slots run)) where
+  module _ (slot : StartedSlot) (i : List·Memᴰ slot (started-slots run)) where
     abbrev s : Setup
     s = slot .settings
 
@@ -103,13 +103,13 @@ module _ (run : Run) where
     -- "Where none falls, counted from a field's start, the squared components of each 16 data chips add up to 16 times the sum of the squared gains.": the 16
     -- chips from chip 16m of a field on; the field need not be drawn whole
     pub power : (f : Field) (m : ℕ) → 16 * m + 16 ≤ field-length s f → ChipsDrawn slot (field-start s f + 16 * m) 16
-        → no-burst s (field-start s f + 16 * m) 16 ≡ true → power-of-16 slot (field-start s f + 16 * m) ≡ power-due s
+        → no-burst s (field-start s f + 16 * m) 16 ≡ true → power-of-16-chips slot (field-start s f + 16 * m) ≡ power-due s
     power = slot-power slot good
 
     -- Demand 2: "a sync burst standing alone, read with its own case, comes back as the group, frame and slot it was made for"
     pub burst-drawn : (y : SyncSetup) → s .sync ≡ some y → ((Q k : ℕ) → s .channel Q k ≡ none)
         → (let g = code-group (s .cell) in let x = burst-start g in ChipsDrawn slot x 256
-        → (t : Answer Candidate) → RanReadSync (y .case) (chips-from slot x 256) t → t ≡ gives (of-group g (y .frame) (y .half)))
+        → (t : Answer Candidate) → RanReadSync (y .case) (chips-from slot x 256) t → t ≡ gives (candidate-for g (y .frame) (y .half)))
     burst-drawn y e nothing drawn t h = read-sync-meets h ∙ slot-burst slot good y e nothing drawn
 
     -- ---- "When a data field drawn whole is read with that start's cell parameter":
@@ -133,8 +133,8 @@ module _ (run : Run) where
           let of-quiet = readings-are quiet (of-data s f Q k) d in
           let of-alone = readings-are burst (of-burst s f Q k) b in
           record {
-            others = d ∙ ap (λ (v : Values). wrote v (quiet .out)) (sym of-quiet);
-            own = b ∙ ap (λ (v : Values). wrote v (burst .out)) (sym of-alone);
+            quiet-accepted = d ∙ ap (λ (v : Values). wrote v (quiet .out)) (sym of-quiet);
+            burst-accepted = b ∙ ap (λ (v : Values). wrote v (burst .out)) (sym of-alone);
             sum = read-meets (x .ran) (sum-reads slot good f whole Q k (x .out) (x .suffice) c)
                 ∙ ap₂ (λ (v w : Values). wrote (added n v w) (x .out)) (sym of-quiet) (sym of-alone);
             if-open = λ c e. of-quiet ∙ own-of-data s (good .valid) f Q k c e;

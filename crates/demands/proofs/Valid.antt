@@ -163,14 +163,14 @@ module _ (s : Setup) (v : Valid s) where
       (changed-held Q k (λ c. record { gain = c .gain; bits = bits })
       (λ c d. record { above-0 = d .above-0; at-most = d .at-most; count = eqb-true _ _ (not-false _ (h .1 .1 .1 .0)); bit = is-bit bits (h .1 .1 .1 .1 .0) }))
 
-  with-sync-valid : (y : Option SyncSetup) → ((z : SyncSetup) → y ≡ some z → ValidSync (s .type) z) → Valid (sync-changed s y)
-  with-sync-valid y f = record { cell = v .cell; type = v .type; code = v .code; apart = v .apart; channel = v .channel; sync = f }
+  sync-changed-valid : (y : Option SyncSetup) → ((z : SyncSetup) → y ≡ some z → ValidSync (s .type) z) → Valid (sync-changed s y)
+  sync-changed-valid y f = record { cell = v .cell; type = v .type; code = v .code; apart = v .apart; channel = v .channel; sync = f }
 
   pub sync-set-valid : (case frame half gP gS : ℕ) → Passed (set-sync-refusals s case frame half gP gS)
       → Valid (sync-changed s (some (record { case = case; frame = frame; half = half; gP = gP; gS = gS })))
   sync-set-valid case frame half gP gS h =
       let g = neither (bad-gain gP) (bad-gain gS) (h .1 .1 .1 .0) in
-      with-sync-valid _ (λ z e. subst (ValidSync (s .type)) (Option·some-injective _ z e) (record {
+      sync-changed-valid _ (λ z e. subst (ValidSync (s .type)) (Option·some-injective _ z e) (record {
         type = eqb-true _ _ (not-false _ (h .0));
         case = holds (one-or-two case) (h .1 .0);
         frame-and-half = h .1 .1 .0;
@@ -181,7 +181,7 @@ module _ (s : Setup) (v : Valid s) where
       }))
 
   pub sync-cleared-valid : Valid (sync-changed s none)
-  sync-cleared-valid = with-sync-valid none (no-sync-held (s .type))
+  sync-cleared-valid = sync-changed-valid none (no-sync-held (s .type))
 
 pub fresh-reference-valid : ValidReference fresh-reference
 fresh-reference-valid =

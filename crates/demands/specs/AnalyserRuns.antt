@@ -1,4 +1,5 @@
--- Runs of the analyser's functions: as of the bench's, what each function's own `ensures` gives its callers (`Learnt`), and nothing else.
+-- Runs of the analyser's functions. As of the bench's functions, a run says of each what its own `ensures` gives its callers (`Learnt`), and nothing else; e has its
+-- parameters as they are when it returns.
 use Prim.Native.Nat.{ℕ}
 use mathlib.Core.List.{List}
 use lib.IntN.{ℤ}
@@ -14,7 +15,7 @@ use Rattle.harden.specs.Hardening.{answer-of-harden}
 use Rattle.harden.proofs.harden.Reads as harden-contract
 use Rattle.read_sync.specs.declared.Candidate.{Candidate}
 use Rattle.read_sync.specs.declared.SyncAnswer.{SyncAnswer}
-use Rattle.read_sync.specs.SyncReading.{answer-of-sync}
+use Rattle.read_sync.specs.SyncReading.{answer-of-read-sync}
 use Rattle.read_sync.proofs.read_sync.Reads as read-sync-contract
 
 -- what a function answered, and what it left in the buffers that it was lent to write to
@@ -40,7 +41,7 @@ pub data RanHarden : (readings : Values) (bits : List ℕ) → Output (List ℕ)
 -- read sync (case, chips) answered t
 pub data RanReadSync (case : ℕ) : (chips : Values) → Answer Candidate → Type 0 where
   by-read-sync : (κs : Lfts 2) (re im : RefT (List ℤ)) (r : SyncAnswer) (e : _) → read-sync-contract.Learnt κs (case, (re, (im, tt))) r e
-      → RanReadSync case (both re im) (answer-of-sync r)
+      → RanReadSync case (both re im) (answer-of-read-sync r)
 
 -- accepted, and these values written: "entries past those written stay"
 abbrev pub wrote : Values → Values → Output Values

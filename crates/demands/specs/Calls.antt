@@ -21,8 +21,8 @@ pub data Call (B : Type 0) : Type 0 where
   start : Call B
   draw : (re im : B) → Call B
 
--- What a bench call answers in a list: that it was accepted, and nothing more; a refusal's number; of load plan the place too; of a draw its count, and the first
--- so many entries of its two buffers.
+-- What a bench call answers in a list: that it was accepted, and nothing more; a refusal's number; of load plan the place too; of a draw its count, and as many
+-- entries from the start of its two buffers.
 pub data BenchAnswer : Type 0 where
   accepted : BenchAnswer
   refused-by : (number : ℕ) → BenchAnswer
@@ -34,7 +34,8 @@ pub record Step (S : Type 0) : Type 0 where
   pub answer : BenchAnswer
   pub next : S
 
--- the same from what a call's definition answers (`Answer`: document 01's number, or the values)
+-- A function's answer is an enum (`CallAnswer`, ..); `answer-of-call` and its like give what it stands for, document 01's number or the values (`Answer`), as the
+-- definitions of the calls do; and that, in a list, is this:
 abbrev pub as-answer : Answer (Unit {0}) → BenchAnswer
 as-answer (refused n) = refused-by n
 as-answer (gives a) = accepted

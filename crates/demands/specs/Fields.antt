@@ -13,12 +13,12 @@ use Rattle.codes.specs.Range.{each}
 use Rattle.modulation.specs.Symbols.{pair, symbol}
 use Rattle.slot.specs.declared.parts.Parts.{Parts}
 use Rattle.slot.specs.Setup.{ChannelSetup, Setup}
-use Rattle.slot.specs.Slot.{burst-type, falls-on, sync-chip, chip}
+use Rattle.slot.specs.Slot.{slot-parts, falls-on, sync-chip, chip}
 use Rattle.bench.specs.BenchCalls.{related-to-open}
 use Rattle.orthogonality.specs.Gains.{squared-gains}
 use Rattle.demands.specs.Reference.{sync-changed}
 use Rattle.demands.specs.AnalyserRuns.{Output, RanRead, RanHarden, wrote, wrote-bits}
-use Rattle.demands.specs.Slots.{Slot}
+use Rattle.demands.specs.Slots.{StartedSlot}
 
 -- the two data fields of a slot
 pub data Field : Type 0 where
@@ -40,31 +40,32 @@ before-of t field-1 = 0
 before-of t field-2 = t .field1
 
 abbrev pub field-length : Setup → Field → ℕ
-field-length s f = length-of (burst-type (s .type)) f
+field-length s f = length-of (slot-parts (s .type)) f
 
 abbrev pub field-start : Setup → Field → ℕ
-field-start s f = start-of (burst-type (s .type)) f
+field-start s f = start-of (slot-parts (s .type)) f
 
-abbrev pub field-before : Setup → Field → ℕ
-field-before s f = before-of (burst-type (s .type)) f
+abbrev pub chips-before : Setup → Field → ℕ
+chips-before s f = before-of (slot-parts (s .type)) f
 
 -- n entries of a list, from entry `at` on
 abbrev pub entries-from : {A : Type 0} → ℕ → ℕ → List A → List A
 entries-from at n l = take n (drop at l)
 
--- the chips from chip x to chip x + n - 1 of the slot are drawn: they come in order from chip 0 on (`in-order`), so it is enough to count them
-abbrev pub ChipsDrawn : Slot → ℕ → ℕ → Type 0
+-- the chips from chip x to chip x + n - 1 of the slot are drawn: they come in order from chip 0 on (`in-order`), so it is enough to count them.
+-- "A stretch of 16 data chips counts once all 16 are drawn"
+abbrev pub ChipsDrawn : StartedSlot → ℕ → ℕ → Type 0
 ChipsDrawn slot x n = x + n ≤ length (slot .chips .re)
 
 -- "A field is drawn whole when all its chips are among them."
-abbrev pub DrawnWhole : Slot → Field → Type 0
+abbrev pub DrawnWhole : StartedSlot → Field → Type 0
 DrawnWhole slot f = let s = slot .settings in ChipsDrawn slot (field-start s f) (field-length s f)
 
 -- n chips of the slot from chip x on, and a field, as they were drawn, in two buffers that "hold them in order"
-abbrev pub chips-from : Slot → ℕ → ℕ → Values
+abbrev pub chips-from : StartedSlot → ℕ → ℕ → Values
 chips-from slot x n = record { re = entries-from x n (slot .chips .re); im = entries-from x n (slot .chips .im) }
 
-abbrev pub drawn-field : Slot → Field → Values
+abbrev pub drawn-field : StartedSlot → Field → Values
 drawn-field slot f = let s = slot .settings in chips-from slot (field-start s f) (field-length s f)
 
 abbrev pub reading-count : Setup → Field → ℕ → ℕ
@@ -76,7 +77,7 @@ pub record Suffice (s : Setup) (f : Field) (Q : ℕ) (out : Values) : Type 0 whe
   pub im : reading-count s f Q ≤ length (out .im)
 
 -- The chips of a field read: "It is read from two buffers that hold them in order, for any code, with answer buffers that suffice", and "with that start's
--- cell parameter". `read` is what the function read gave and left there.
+-- cell parameter". `read` is what the function read answered and left there.
 pub record FieldRead (s : Setup) (f : Field) (Q k : ℕ) (chips : Values) : Type 0 where
   pub out : Values
   pub suffice : Suffice s f Q out
@@ -89,7 +90,7 @@ readings {s} {f} {Q} {k} {chips} x = let n = reading-count s f Q in record { re 
 
 -- "A code's own symbols are those of that field, the n-th for reading n."
 abbrev pub own-symbol : Setup → Field → ℕ → ChannelSetup → ℕ → Complex
-own-symbol s f Q c n = symbol (pair (c .bits) (field-before s f / Q + n))
+own-symbol s f Q c n = symbol (pair (c .bits) (chips-before s f / Q + n))
 
 -- "each reading of a code open at that start is its spreading factor times its gain times its own symbol"
 abbrev pub own-readings : Setup → Field → ℕ → ChannelSetup → Values
@@ -123,18 +124,17 @@ added n v w = in-buffers n (λ i. value (v .re) (v .im) i ⊕ value (w .re) (w .
 -- "A sync burst adds exactly its own reading.", which "is what the same read gives for that field with the burst's chips alone": x is the field read as it was
 -- drawn, quiet without sync, burst with the burst's chips alone; read accepts all three
 pub record BurstAdds (s : Setup) (f : Field) (Q k : ℕ) (drawn : Values) (x : FieldRead s f Q k drawn) (quiet : FieldRead s f Q k (quiet-field s f)) (burst : FieldRead s f Q k (burst-field s f)) : Type 0 where
-  pub others : quiet .read ≡ wrote (readings quiet) (quiet .out)
-  pub own : burst .read ≡ wrote (readings burst) (burst .out)
+  pub quiet-accepted : quiet .read ≡ wrote (readings quiet) (quiet .out)
+  pub burst-accepted : burst .read ≡ wrote (readings burst) (burst .out)
   pub sum : x .read ≡ wrote (added (reading-count s f Q) (readings quiet) (readings burst)) (x .out)
   -- where the code is open, and where it is unrelated to all open ones
   pub if-open : (c : ChannelSetup) → s .channel Q k ≡ some c → readings quiet ≡ own-readings s f Q c
   pub if-unrelated : unrelated s Q k ≡ true → readings quiet ≡ zero-readings s f Q
 
 -- ---- power, hard bits
--- "the squared components of each 16 data chips add up to": those from chip x of the slot on, as they were drawn. "A stretch of 16 data chips counts
--- once all 16 are drawn".
-abbrev pub power-of-16 : Slot → ℕ → ℤ
-power-of-16 slot x = Σℤ< 16 (λ i. squared-size (value (slot .chips .re) (slot .chips .im) (x + i)))
+-- "the squared components of each 16 data chips add up to": those from chip x of the slot on, as they were drawn.
+abbrev pub power-of-16-chips : StartedSlot → ℕ → ℤ
+power-of-16-chips slot x = Σℤ< 16 (λ i. squared-size (value (slot .chips .re) (slot .chips .im) (x + i)))
 
 -- "16 times the sum of the squared gains", which are "those of the codes open at that start"
 abbrev pub power-due : Setup → ℤ
@@ -142,9 +142,9 @@ power-due s = pos (16 * squared-gains s)
 
 -- the bits of a channel that a field sends: field 1's come first, then field 2's
 abbrev pub field-bits : Setup → Field → ℕ → ChannelSetup → List ℕ
-field-bits s f Q c = entries-from (2 * (field-before s f / Q)) (2 * reading-count s f Q) (c .bits)
+field-bits s f Q c = entries-from (2 * (chips-before s f / Q)) (2 * reading-count s f Q) (c .bits)
 
--- The chips of a field read, and the readings hardened into a byte buffer that suffices: `hardened` is what the function harden gave and left there.
+-- The chips of a field read, and the readings hardened into a byte buffer that suffices: `hardened` is what the function harden answered and left there.
 pub record FieldHardened (s : Setup) (f : Field) (Q k : ℕ) (chips : Values) : Type 0 where
   pub field : FieldRead s f Q k chips
   pub bits : List ℕ

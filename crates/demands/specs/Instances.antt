@@ -29,16 +29,16 @@ pub data Value : Type 0 where
   code-units : Allocated → Value
 
 pub record Instance : Type 0 where
-  pub given : List Value
+  pub computed : List Value
   pub stated : List Value
 
 infix 30 _is_
 abbrev pub _is_ : List Value → List Value → Instance
-v is w = record { given = v; stated = w }
+v is w = record { computed = v; stated = w }
 
 -- y times j
-abbrev pub imaginary : ℤ → Complex
-imaginary y = pos 0 +j y
+abbrev pub times-j : ℤ → Complex
+times-j y = pos 0 +j y
 
 abbrev pub minus : ℕ → ℤ
 minus n = negℤ (pos n)
@@ -62,8 +62,8 @@ chips-of s = complex (listed 4 (chip s))
 abbrev pub readings-of : Setup → ℕ → ℕ → ℕ → Value
 readings-of s Q k n = complex (listed n (reading (s .cell) Q k (chip s)))
 
-abbrev pub three : ℕ → Complex → ℕ → Complex → ℕ → Complex → Value
-three i u j v k w = code-units (record { first = with-unit i u; second = with-unit j v; marker = with-unit k w })
+abbrev pub three-codes : ℕ → Complex → ℕ → Complex → ℕ → Complex → Value
+three-codes i u j v k w = code-units (record { first = with-unit i u; second = with-unit j v; marker = with-unit k w })
 
 -- the readings 0, 5+5j, -5-5j
 abbrev pub three-readings : ℕ → Complex
@@ -78,20 +78,20 @@ table =
     -- 3. (4, 1) and (16, 5) are related, (4, 1) and (16, 8) not.
     (truths (related 4 1 16 5 ∷ related 4 1 16 8 ∷ []) ∷ [] is truths (true ∷ false ∷ []) ∷ []) ∷
     -- 4. Scrambling code 8 begins j, -1, -j, -1.
-    (complex (map (scrambling 8) (1 ∷ 2 ∷ 3 ∷ 4 ∷ [])) ∷ [] is complex (imaginary (pos 1) ∷ real (minus 1) ∷ imaginary (minus 1) ∷ real (minus 1) ∷ []) ∷ []) ∷
+    (complex (map (scrambling 8) (1 ∷ 2 ∷ 3 ∷ 4 ∷ [])) ∷ [] is complex (times-j (pos 1) ∷ real (minus 1) ∷ times-j (minus 1) ∷ real (minus 1) ∷ []) ∷ []) ∷
     -- 5. Cell 8, (4, 1), gain 3, pair 01: 3j, -3, 3j, 3, reading 12.
     (chips-of one-code ∷ readings-of one-code 4 1 1 ∷ []
-    is complex (imaginary (pos 3) ∷ real (minus 3) ∷ imaginary (pos 3) ∷ real (pos 3) ∷ []) ∷ complex (real (pos 12) ∷ []) ∷ []) ∷
+    is complex (times-j (pos 3) ∷ real (minus 3) ∷ times-j (pos 3) ∷ real (pos 3) ∷ []) ∷ complex (real (pos 12) ∷ []) ∷ []) ∷
     -- 6. Cell 8, (2, 0) gain 3 pairs 01 01 with (4, 2) gain 5 pair 10: -2j, -8, 2j, -8; readings 6, 6 and -20, free (4, 3) reads 0.
     (chips-of two-codes ∷ readings-of two-codes 2 0 2 ∷ readings-of two-codes 4 2 1 ∷ readings-of two-codes 4 3 1 ∷ []
-    is complex (imaginary (minus 2) ∷ real (minus 8) ∷ imaginary (pos 2) ∷ real (minus 8) ∷ []) ∷
+    is complex (times-j (minus 2) ∷ real (minus 8) ∷ times-j (pos 2) ∷ real (minus 8) ∷ []) ∷
     complex (real (pos 6) ∷ real (pos 6) ∷ []) ∷ complex (real (minus 20) ∷ []) ∷ complex (real (pos 0) ∷ []) ∷ []) ∷
     -- 7. Bursts start at 720 for group 15, 1488 for 16, 2208 for 31.
     (numbers (map burst-start (15 ∷ 16 ∷ 31 ∷ [])) ∷ [] is numbers (720 ∷ 1488 ∷ 2208 ∷ []) ∷ []) ∷
     -- 8. Case 1, group 31, frame 2: -jC13, -jC14, -C10.
-    (code-units (allocation 1 31 2 0) ∷ [] is three 13 (imaginary (minus 1)) 14 (imaginary (minus 1)) 10 (real (minus 1)) ∷ []) ∷
+    (code-units (allocation 1 31 2 0) ∷ [] is three-codes 13 (times-j (minus 1)) 14 (times-j (minus 1)) 10 (real (minus 1)) ∷ []) ∷
     -- 9. Case 2, group 9, frame 2, half 1: -C10, C13, -C14.
-    (code-units (allocation 2 9 2 1) ∷ [] is three 10 (real (minus 1)) 13 (real (pos 1)) 14 (real (minus 1)) ∷ []) ∷
+    (code-units (allocation 2 9 2 1) ∷ [] is three-codes 10 (real (minus 1)) 13 (real (pos 1)) 14 (real (minus 1)) ∷ []) ∷
     -- 10. Cp chip 48 is -1-j.
     (complex (Cp 48 ∷ []) ∷ [] is complex ((minus 1 +j minus 1) ∷ []) ∷ []) ∷
     -- 11. C1 chip 16 is -1-j.

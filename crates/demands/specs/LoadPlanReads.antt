@@ -1,5 +1,5 @@
 -- What load plan ensures, as its callers may take it. The function is walked by hand, so the toolchain makes no `Reads` of it: this makes the same claims, of the
--- `ensures` in the source (`clauses`), and knows less of the arguments than the toolchain's readings do.
+-- `ensures` in the source (`clauses`), and knows less of the arguments than the toolchain's own do.
 use mathlib.Core.Path.{refl}
 use mathlib.Core.List.{List}
 use base.Logic.{emp}

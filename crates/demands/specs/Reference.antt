@@ -17,7 +17,7 @@ use Rattle.bench.specs.declared.Channel.{Channel}
 use Rattle.bench.specs.BenchCalls.{set-cell-refusals, open-refusals, AnswerAt, refused-at, loads, close-refusals, set-gain-refusals, load-bits-refusals, set-sync-refusals, start-refusals, draw-refusals}
 use Rattle.demands.specs.Calls.{Call, set-cell, open-code, load-plan, close, set-gain, load-bits, set-sync, clear-sync, start, draw, BenchAnswer, accepted, refused-by, refused-record, drew, Step}
 
--- It has settings, a copy of settings or none (`sending`), and a tally (`sent`);
+-- It has settings, a copy of settings or none (`sending`), and a tally (`sent`).
 pub record Reference : Type 0 where
   pub settings : Setup
   pub sending : Option Setup
@@ -27,7 +27,7 @@ pub record Reference : Type 0 where
 abbrev pub cell-set : ℕ → ℕ → Setup
 cell-set p t = record { cell = p; type = t; channel = λ Q k. none; sync = none }
 
--- at first the fresh settings (parameter 0, type 1, nothing open, no sync), no copy, tally 0.
+-- At first the fresh settings (parameter 0, type 1, nothing open, no sync), no copy, tally 0.
 abbrev pub fresh-reference : Reference
 fresh-reference = record { settings = cell-set 0 1; sending = none; sent = 0 }
 
@@ -73,7 +73,7 @@ records-opened place s (c ∷ cs) =
     elim (open-refusals s (c .q) (c .k) (c .gain) otherwise opened s (c .q) (c .k) (c .gain))
     [ refused n ↦ refused-at n place | gives next ↦ records-opened (suc place) next cs ]
 
--- "it replaces all open codes, or changes nothing"
+-- "it replaces all open codes, or changes nothing" (`plan-step`)
 abbrev pub plan-loaded : Setup → List Channel → AnswerAt Setup
 plan-loaded s plan = records-opened 0 (nothing-open s) plan
 

@@ -15,17 +15,17 @@ use Rattle.demands.specs.Reference.{Reference, fresh-reference, referenc
 use Rattle.demands.specs.Runs.{Run, answers-in}
 
 -- an accepted start: the settings at it, and the chips drawn after it
-pub record Slot : Type 0 where
+pub record StartedSlot : Type 0 where
   pub settings : Setup
   pub chips : Values
 
 -- an accepted start makes a copy (so there is one), and no chip is drawn yet
-abbrev pub begun : Option Setup → List Slot → List Slot
+abbrev pub begun : Option Setup → List StartedSlot → List StartedSlot
 begun none past = past
 begun (some copy) past = record { settings = copy; chips = record { re = []; im = [] } } ∷ past
 
 -- chips that a draw left come behind those drawn since the last accepted start
-abbrev pub extended : Values → List Slot → List Slot
+abbrev pub extended : Values → List StartedSlot → List StartedSlot
 extended v [] = []
 extended v (x ∷ past) = record { settings = x .settings; chips = record { re = x .chips .re ++ v .re; im = x .chips .im ++ v .im } } ∷ past
 
@@ -42,13 +42,13 @@ is-start start = true
 is-start (draw re im) = false
 
 -- the slots after a call, by what the bench answered to it; `copy` is the ledger's after the call
-abbrev pub slots-after : Option Setup → Bool → BenchAnswer → List Slot → List Slot
+abbrev pub slots-after : Option Setup → Bool → BenchAnswer → List StartedSlot → List StartedSlot
 slots-after copy starts accepted past = cond starts (begun copy past) past
 slots-after copy starts (refused-by n) past = past
 slots-after copy starts (refused-record n place) past = past
 slots-after copy starts (drew m v) past = extended v past
 
-unfoldable pub slots-from : Reference → List Slot → List (Call (List ℤ)) → List BenchAnswer → List Slot
+unfoldable pub slots-from : Reference → List StartedSlot → List (Call (List ℤ)) → List BenchAnswer → List StartedSlot
 slots-from r past [] answers = past
 slots-from r past (c ∷ cs) [] = past
 slots-from r past (c ∷ cs) (a ∷ answers) =
@@ -56,16 +56,16 @@ slots-from r past (c ∷ cs) (a ∷ answers) =
     slots-from next (slots-after (next .sending) (is-start c) a past) cs answers
 
 -- the accepted starts of a run, the last one first
-abbrev pub slots : Run → List Slot
-slots run = slots-from fresh-reference [] (run .calls) (answers-in (run .steps))
+abbrev pub started-slots : Run → List StartedSlot
+started-slots run = slots-from fresh-reference [] (run .calls) (answers-in (run .steps))
 
 -- "The chips drawn after an accepted start are, in order, those of the settings at that start": chips 0 to count - 1
-pub record InOrder (x : Slot) : Type 0 where
+pub record InOrder (x : StartedSlot) : Type 0 where
   pub count : ℕ
   pub at-most : count ≤ slot-length
   pub chips : x .chips ≡ in-buffers count (chip (x .settings))
 
 -- "no start was accepted yet or all 2,560 chips of the last accepted one are out"
-abbrev pub NothingLeft : List Slot → Type 0
+abbrev pub NothingLeft : List StartedSlot → Type 0
 NothingLeft [] = Unit {0}
 NothingLeft (x ∷ past) = length (x .chips .re) ≡ slot-length

@@ -22,12 +22,12 @@ unfoldable pub size-from : (ℕ → Complex) → ℕ → ℤ
 size-from chip start = squared-size (P (λ n. chip (start + n)))
 
 -- how many starts of 256 chips a recording of n chips has
-abbrev pub starts : ℕ → ℕ
-starts n = n - 255
+abbrev pub start-count : ℕ → ℕ
+start-count n = n - 255
 
 -- the smallest start of 256 chips whose P has the largest squared size,
 abbrev pub best-start : (ℕ → Complex) → ℕ → ℕ
-best-start chip n = smallest (starts n) (has-largest (starts n) (size-from chip))
+best-start chip n = smallest (start-count n) (has-largest (start-count n) (size-from chip))
 
 -- and that size as computed from the chips
 abbrev pub peak : (ℕ → Complex) → ℕ → Peak

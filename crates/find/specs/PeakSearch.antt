@@ -11,10 +11,11 @@ use Rattle.complex.specs.Fits.{Within}
 use Rattle.analyser_parts.specs.declared.largest.Largest.{Largest}
 
 -- ---- the correlation with the primary code by steps
+-- a step: four entries of x from p on, a, b and c apart from it, the last one with a minus
 abbrev pub four-of : (ℕ → ℤ) → ℕ → ℕ → ℕ → ℕ → ℤ
 four-of x a b c p = x p +ℤ x (p + a) +ℤ (x (p + b) -ℤ x (p + c))
 
--- from those of re and im, the squared size of the correlation
+-- from the sums x of re and y of im with the signs of the code, the squared size of the correlation
 unfoldable pub size-of : ℤ → ℤ → ℤ
 size-of x y = squared-size ((x +j y) ⊗ conj (pos 1 +j pos 1))
 
@@ -29,7 +30,7 @@ lowered-of x = cond (ltZ (pos 0) x) (negℤ x) x
 abbrev pub lower-of : ℤ → ℤ → ℤ → ℤ
 lower-of low x y = cond (ltZ (lowered-of x +ℤ lowered-of y) low) (lowered-of x +ℤ lowered-of y) low
 
--- low is not positive, and at each of n entries |x| + |y| is at most its size
+-- low is not positive and at most 51200000 in size, and at each of n entries |x| + |y| is at most its size
 pub record Covers (x y : List ℤ) (from n : ℕ) (low : ℤ) : Type 0 where
   pub sign : leZ low (pos 0) ≡ true
   pub size : Within 51200000 low
@@ -39,7 +40,7 @@ pub record Covers (x y : List ℤ) (from n : ℕ) (low : ℤ) : Type 0 where
 pub record Bounded (s : ℕ → ℤ) (n : ℕ) (bounds : List ℤ) : Type 0 where
   pub each : (k : ℕ) → k < n → (i : ℕ) → i < 32 → leZ (s (k * 32 + i)) (bounds at k) ≡ true
 
--- b is one of `count` values s. Of the first n, none that counts is larger; of those before it, none that counts is as large
+-- b is one of `count` values s, and c says which of them are looked at. Of those of the first n none is larger; of those before b none is as large
 pub record PeaksBelow (s : ℕ → ℤ) (c : ℕ → Bool) (count n : ℕ) (b : Largest) : Type 0 where
   pub below : b .at < count
   pub own : b .value ≡ s (b .at)

@@ -12,7 +12,7 @@ ghost use Rattle.complex.specs.Fits.{Within, Both, Bound};
 ghost use Rattle.codes.specs.Refusals.{refusal-number};
 ghost use Rattle.analyser_parts.specs.Peaks.{Peaks};
 ghost use Rattle.analyser_parts.specs.PartSums.{primary-sum};
-ghost use Rattle.find.specs.Finding.{find-refusals, longest-recording, peak as peak-of, scratch-length, shortest-recording, starts};
+ghost use Rattle.find.specs.Finding.{find-refusals, longest-recording, peak as peak-of, scratch-length, shortest-recording, start-count};
 ghost use Rattle.find.specs.PeakSearch.{Bounded, Covers, four-of, lower-of, lowered-of, PeaksBelow, sizes, size-of};
 use crate::Peak;
 use analyser_parts::components;
@@ -99,7 +99,7 @@ fn whole(y: &mut [i32], t: &[i32], count: usize)
 // with 15 additions a chip, 13 where the compiler shares the two that `pairs` has twice, make what its definition makes with 255; t is scratch.
 fn correlate(x: &[i32], y: &mut [i32], t: &mut [i32])
     requires { ⌜ (256 ≤ length (now x)) × (length (now x) ≤ 5120) × (scratch-length (length (now x)) ≤ length (now y)) × (length (now x) ≤ length (now t)) × Bound 100000 (now x) ⌝ }
-    ensures { λ r. ⌜ (take (starts (length (now (x .entry)))) (now (y .exit)) ≡ listed (starts (length (now (x .entry)))) (primary-sum (now (x .entry)))) × (length (now (y .exit)) ≡ length (now (y .entry))) × (length (now (t .exit)) ≡ length (now (t .entry))) ⌝ }
+    ensures { λ r. ⌜ (take (start-count (length (now (x .entry)))) (now (y .exit)) ≡ listed (start-count (length (now (x .entry)))) (primary-sum (now (x .entry)))) × (length (now (y .exit)) ≡ length (now (y .entry))) × (length (now (t .exit)) ≡ length (now (t .entry))) ⌝ }
 {
     let n = x.len();
     sums(x, 1, 8, 9, &mut *t, n - 9);

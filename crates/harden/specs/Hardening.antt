@@ -20,7 +20,7 @@ pair-score y m = getD (y .im ∷ y .re ∷ negℤ (y .re) ∷ negℤ (y .im) ∷
 unfoldable pub hard-pair : Complex → ℕ
 hard-pair y = smallest 4 (has-largest 4 (pair-score y))
 
--- two bytes each: bit b of those of the readings is the first or the second of pair b div 2
+-- two bytes each: byte b is the first bit of the pair of reading b div 2 where b is even, else the second
 unfoldable pub hard-bit : (ℕ → Complex) → ℕ → ℕ
 hard-bit y b = cond (eqb (b % 2) 0) (hard-pair (y (b / 2)) / 2) (hard-pair (y (b / 2)) % 2)
 

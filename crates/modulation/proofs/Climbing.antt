@@ -16,15 +16,15 @@ use Rattle.complex.proofs.Sums.{Σℤ-cong, Σℤ-+, Σℤ-pairs}
 use Rattle.codes.specs.Tree.{is-spreading-factor, element}
 use Rattle.modulation.specs.SixteenChips.{level-sum, summed, raised, climbed}
 use Rattle.modulation.proofs.Levels.{level-entries}
-use Rattle.modulation.proofs.Terms.{symbol-place, chip-sign, code-entry, raised-term, climbed-term}
+use Rattle.modulation.proofs.Terms.{symbol-place, code-sign, code-entry, raised-term, climbed-term}
 
 -- the entries x of level Q, spread by its codes
 unfoldable low : ℕ → List ℤ → ℕ → ℤ
-low Q x c = Σℤ< Q (λ k. code-entry x Q k c *ℤ chip-sign Q k c)
+low Q x c = Σℤ< Q (λ k. code-entry x Q k c *ℤ code-sign Q k c)
 
 -- and what `raised` makes of the entries x of the level below it
 raised-low : List ℤ → ℕ → ℕ → ℤ
-raised-low x Q c = Σℤ< Q (λ k. raised x Q (symbol-place Q k c) *ℤ chip-sign Q k c)
+raised-low x Q c = Σℤ< Q (λ k. raised x Q (symbol-place Q k c) *ℤ code-sign Q k c)
 
 module _ (gains : List ℕ) (s : List ℤ) (c : ℕ) (l : c < 16) where
   climbed-low : (Q : ℕ) → T (is-spreading-factor Q) → (x : List ℤ) → low Q (level-entries gains s Q x) c ≡ raised-low x Q c +ℤ level-sum gains s Q c

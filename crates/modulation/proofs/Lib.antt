@@ -4,4 +4,4 @@ pub mod Levels
 pub mod Terms
 pub mod Climbing
 pub mod BurstParts
-pub mod SignPairs
+pub mod ScramblingSigns

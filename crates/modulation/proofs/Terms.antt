@@ -23,8 +23,8 @@ use Rattle.modulation.proofs.Levels.{level-entries}
 abbrev pub symbol-place : ℕ → ℕ → ℕ → ℕ
 symbol-place Q k c = k * width Q + c / Q
 
-abbrev pub chip-sign : ℕ → ℕ → ℕ → ℤ
-chip-sign Q k c = element Q k (c % Q)
+abbrev pub code-sign : ℕ → ℕ → ℕ → ℤ
+code-sign Q k c = element Q k (c % Q)
 
 -- the first of the two entries that `raised` takes
 abbrev first : ℕ → ℕ → ℕ
@@ -36,8 +36,8 @@ below Q k c =
     let i = symbol-place Q k c in
     eqb (first Q i) (symbol-place (2 * Q) (2 * k) c) ∷
     eqb (first Q i + width Q / 2) (symbol-place (2 * Q) (2 * k + 1) c) ∷
-    same (chip-sign (2 * Q) (2 * k) c) (chip-sign Q k c) ∷
-    same (chip-sign (2 * Q) (2 * k + 1) c) (cond (eqb (i % 2) 0) (chip-sign Q k c) (negℤ (chip-sign Q k c))) ∷ []
+    same (code-sign (2 * Q) (2 * k) c) (code-sign Q k c) ∷
+    same (code-sign (2 * Q) (2 * k + 1) c) (cond (eqb (i % 2) 0) (code-sign Q k c) (negℤ (code-sign Q k c))) ∷ []
 
 -- for every code: its place lies in the block, in the code's own part
 facts : ℕ → ℕ → ℕ → List Bool
@@ -65,8 +65,8 @@ module _ (Q c : ℕ) (q : T (is-spreading-factor Q)) (l : c < 16) (k : ℕ) (h :
   unfolding facts
   fact-below n j m = subst (λ b. T (getD (cond b [] (below Q k c)) j true)) n (fact (suc (suc j)) (omega arith))
 
-  pub raised-term : (x : List ℤ) → eqb Q 16 ≡ false → raised x Q (symbol-place Q k c) *ℤ chip-sign Q k c
-      ≡ code-entry x (2 * Q) (2 * k) c *ℤ chip-sign (2 * Q) (2 * k) c +ℤ code-entry x (2 * Q) (2 * k + 1) c *ℤ chip-sign (2 * Q) (2 * k + 1) c
+  pub raised-term : (x : List ℤ) → eqb Q 16 ≡ false → raised x Q (symbol-place Q k c) *ℤ code-sign Q k c
+      ≡ code-entry x (2 * Q) (2 * k) c *ℤ code-sign (2 * Q) (2 * k) c +ℤ code-entry x (2 * Q) (2 * k + 1) c *ℤ code-sign (2 * Q) (2 * k + 1) c
   unfolding raised below
   raised-term x n =
       let u = code-entry x (2 * Q) (2 * k) c in
@@ -74,16 +74,16 @@ module _ (Q c : ℕ) (q : T (is-spreading-factor Q)) (l : c < 16) (k : ℕ) (h :
       let even = eqb (symbol-place Q k c % 2) 0 in
       let p : first Q (symbol-place Q k c) ≡ symbol-place (2 * Q) (2 * k) c = eqb→eq _ _ (fact-below n 0 (omega arith)) in
       let r : first Q (symbol-place Q k c) + width Q / 2 ≡ symbol-place (2 * Q) (2 * k + 1) c = eqb→eq _ _ (fact-below n 1 (omega arith)) in
-      (λ j. cond (n j) (pos 0) (cond even (getD x (p j) (pos 0) +ℤ getD x (r j) (pos 0)) (getD x (p j) (pos 0) -ℤ getD x (r j) (pos 0))) *ℤ chip-sign Q k c)
-      ∙ two-terms even u v (chip-sign Q k c)
+      (λ j. cond (n j) (pos 0) (cond even (getD x (p j) (pos 0) +ℤ getD x (r j) (pos 0)) (getD x (p j) (pos 0) -ℤ getD x (r j) (pos 0))) *ℤ code-sign Q k c)
+      ∙ two-terms even u v (code-sign Q k c)
       ∙ ap₂ (λ a b. u *ℤ a +ℤ v *ℤ b) (sym (same→eq _ _ (fact-below n 2 (omega arith)))) (sym (same→eq _ _ (fact-below n 3 (omega arith))))
 
-  pub climbed-term : (gains : List ℕ) (s x : List ℤ) → code-entry (level-entries gains s Q x) Q k c *ℤ chip-sign Q k c
-      ≡ raised x Q (symbol-place Q k c) *ℤ chip-sign Q k c +ℤ pos (getD gains (node Q k) 0) *ℤ code-entry s Q k c *ℤ chip-sign Q k c
+  pub climbed-term : (gains : List ℕ) (s x : List ℤ) → code-entry (level-entries gains s Q x) Q k c *ℤ code-sign Q k c
+      ≡ raised x Q (symbol-place Q k c) *ℤ code-sign Q k c +ℤ pos (getD gains (node Q k) 0) *ℤ code-entry s Q k c *ℤ code-sign Q k c
   unfolding own facts
   climbed-term gains s x =
       let part : symbol-place Q k c / width Q ≡ k = eqb→eq _ _ (fact 1 (omega arith)) in
-      ap (λ (t : ℤ). t *ℤ chip-sign Q k c)
+      ap (λ (t : ℤ). t *ℤ code-sign Q k c)
       (listed-at (climbed gains s x Q) (pos 0) 16 (symbol-place Q k c) (ltb→lt _ 16 (fact 0 (omega arith)))
       ∙ ap (λ (m : ℕ). raised x Q (symbol-place Q k c) +ℤ pos (getD gains (node Q m) 0) *ℤ code-entry s Q k c) part)
-      ∙ +ℤ-*ℤ (raised x Q (symbol-place Q k c)) (pos (getD gains (node Q k) 0) *ℤ code-entry s Q k c) (chip-sign Q k c)
+      ∙ +ℤ-*ℤ (raised x Q (symbol-place Q k c)) (pos (getD gains (node Q k) 0) *ℤ code-entry s Q k c) (code-sign Q k c)

@@ -1,8 +1,8 @@
--- How the code makes sixteen chips at a time, data and burst. Nothing here is document 01's: the contracts of the bench's calls do not name it.
+-- How the functions make sixteen chips at a time, data and burst. Nothing here is document 01's: the contracts of the bench's calls do not name it.
 use lib.IntN.{ℤ, pos, _+ℤ_, _-ℤ_, _*ℤ_}
 use Prim.Native.Nat.{ℕ, _+_, _*_, _/_, _%_}
 use mathlib.Core.List.{List}
-use mathlib.Core.Bool.{Bool, true, false, not, cond}
+use mathlib.Core.Bool.{Bool, true, false, cond}
 use lib.Dec.{eqb}
 use lib.ListN.{getD}
 use Rattle.complex.specs.declared.Complex.{Complex}
@@ -17,7 +17,7 @@ use Rattle.codes.specs.declared.Allocated.{Allocated}
 use Rattle.codes.specs.SyncCodes.{a, b}
 use Rattle.modulation.specs.declared.Block.{Block}
 use Rattle.modulation.specs.declared.data.OpenLevels.{OpenLevels}
-use Rattle.modulation.specs.Nodes.{node}
+use Rattle.modulation.specs.Nodes.{node, open-at}
 use Rattle.modulation.specs.Symbols.{symbol}
 
 -- f 0, .., f 15 in a block
@@ -33,8 +33,8 @@ level-sum gains x Q c = Σℤ< Q (λ k. pos (getD gains (node Q k) 0) *ℤ getD 
 unfoldable pub summed : List ℕ → List ℤ → ℕ → ℤ
 summed gains x c = over-factors _+ℤ_ (pos 0) (λ Q. level-sum gains x Q c)
 
--- One level up the tree: code (Q, k) stands in (2Q, 2k) twice, and in (2Q, 2k+1) with its negative second. So a symbol of each of the two
--- is, on the first Q of its chips, their sum at (Q, k), and on the other Q chips their difference. Entry i of level Q from the entries x of level 2Q:
+-- One level up the tree: code (Q, k) stands in (2Q, 2k) twice, and in (2Q, 2k+1) with its negative second. So one symbol of
+-- each of the two goes out, with code (Q, k), as their sum on the first Q chips and as their difference on the last Q. Entry i of level Q from the entries x of level 2Q:
 unfoldable pub raised : List ℤ → ℕ → ℕ → ℤ
 raised x Q i =
     let w = width Q in
@@ -56,7 +56,7 @@ with-own gains s x Q i = getD x i (pos 0) +ℤ own gains s Q i
 
 -- whether a code of factor Q is open
 abbrev pub has-open : List ℕ → ℕ → Bool
-has-open gains Q = any Q (λ k. not (eqb (getD gains (node Q k) 0) 0))
+has-open gains Q = any Q (open-at gains Q)
 
 -- which levels have an open code
 abbrev pub levels-of : List ℕ → OpenLevels
@@ -68,9 +68,9 @@ component z re = cond re (z .re) (z .im)
 
 -- ---- scrambling: (x + y j) w for a w that is imaginary at even places, from 0, and real at odd ones. With w (1 + j) = t + u j the product is
 -- t y + u x j at even places, t x + u y j at odd ones.
--- the sign pair t + u j of chip i: scrambling element i + 1 times 1 + j
-abbrev pub sign-pair : ℕ → ℕ → Complex
-sign-pair p i = scrambling p (i + 1) ⊗ (pos 1 +j pos 1)
+-- the scrambling signs of chip i, as t + u j: scrambling element i + 1 times 1 + j
+abbrev pub scrambling-signs : ℕ → ℕ → Complex
+scrambling-signs p i = scrambling p (i + 1) ⊗ (pos 1 +j pos 1)
 
 -- entry i of the signs t times that of `even` or of `odd`, by the place's parity
 abbrev pub scrambled : List ℤ → List ℤ → List ℤ → ℕ → ℤ
@@ -78,14 +78,14 @@ scrambled t even odd i = getD t i (pos 0) *ℤ cond (eqb (i % 2) 0) (getD even i
 
 -- ---- a block from the tables
 -- one component of the sixteen chips before scrambling, from the pairs that stand from `from` on
-abbrev pub summed-row : List ℕ → List ℕ → ℕ → Bool → List ℤ
-summed-row gains pairs from re = listed 16 (summed gains (listed 16 (λ i. component (symbol (getD pairs (from + i) 0)) re)))
+abbrev pub summed-component : List ℕ → List ℕ → ℕ → Bool → List ℤ
+summed-component gains pairs from re = listed 16 (summed gains (listed 16 (λ i. component (symbol (getD pairs (from + i) 0)) re)))
 
--- chip c of them, scrambled by the signs t and u of its pairs
+-- chip c of them, scrambled by the signs t and u
 abbrev pub block-chip : List ℕ → List ℕ → ℕ → List ℤ → List ℤ → ℕ → Complex
 block-chip gains pairs from t u c =
-    let x = summed-row gains pairs from true in
-    let y = summed-row gains pairs from false in
+    let x = summed-component gains pairs from true in
+    let y = summed-component gains pairs from false in
     scrambled t y x c +j scrambled u x y c
 
 -- ---- the burst by parts of sixteen chips

@@ -10,7 +10,7 @@ ghost use Rattle.complex.specs.Fits.{Bound, Within};
 ghost use Rattle.codes.specs.Tree.{is-spreading-factor, width};
 ghost use Rattle.modulation.specs.Symbols.{symbol as symbol-of};
 ghost use Rattle.modulation.specs.Nodes.{node as node-of};
-ghost use Rattle.modulation.specs.SixteenChips.{block-chip, block-of, climbed as climbed-of, component as component-of, has-open, with-own, levels-of, raised as raised-of, summed as summed-of, sign-pair, scrambled as scrambled-of};
+ghost use Rattle.modulation.specs.SixteenChips.{block-chip, block-of, climbed as climbed-of, component as component-of, has-open, with-own, levels-of, raised as raised-of, summed as summed-of, scrambling-signs, scrambled as scrambled-of};
 use crate::Block;
 use codes::CellParameter;
 use codes::scrambling;
@@ -192,10 +192,10 @@ fn summed(gains: &[u16; 31], levels: OpenLevels, s: &[i32; 16]) -> [i32; 16]
     climbed(gains, levels.q1, s, &x2, 1)
 }
 
-// A cell's sign pairs: the elements of its scrambling code, each times 1 + j; their components are the code's signs, some changed, by a pattern of four
+// A cell's scrambling signs: the elements of its scrambling code, each times 1 + j; their components are the code's signs, some changed, by a pattern of four
 // places. The elements themselves are imaginary at even places, from 0, and real at odd ones, so each component of a product with one is a single product.
-pub fn sign_pairs(cell: CellParameter) -> Block
-    ensures { λ r. ⌜ r ≡ block-of (sign-pair (cell .0)) ⌝ }
+pub fn scrambling_signs(cell: CellParameter) -> Block
+    ensures { λ r. ⌜ r ≡ block-of (scrambling-signs (cell .0)) ⌝ }
 {
     let mut re = [0i32; 16];
     let mut im = [0i32; 16];
@@ -249,7 +249,7 @@ fn scrambled(t: &[i32; 16], even: &[i32; 16], odd: &[i32; 16]) -> [i32; 16]
     y
 }
 
-// The sixteen chips, before the burst, whose pairs stand from `from` on; `tre` and `tim` are the scrambling code's sign pairs.
+// The sixteen chips, before the burst, whose pairs stand from `from` on; `tre` and `tim` are the cell's scrambling signs.
 pub fn block<'a>(
     gains: &'a [u16; 31],
     levels: OpenLevels,

@@ -13,6 +13,6 @@ abbrev pub squared-gain : Option ChannelSetup → ℕ
 squared-gain none = 0
 squared-gain (some c) = c .gain * c .gain
 
--- the sum over all codes
+-- the sum of the squared gains over all codes
 unfoldable pub squared-gains : Setup → ℕ
 squared-gains s = over-factors _+_ 0 (λ Q. Σℕ< Q (λ k. squared-gain (s .channel Q k)))

@@ -12,7 +12,7 @@ use Rattle.codes.specs.PackedSigns.{signed-by-j}
 use Rattle.codes.specs.Tree.{element}
 use Rattle.codes.specs.Scrambling.{v, scrambling}
 
--- what a chip is multiplied by, 16 chips apart the same: chip q has multiplier q mod 16
+-- what chip i of each 16 is multiplied by
 unfoldable pub multiplier : ℕ → ℕ → ℕ → ℕ → Complex
 multiplier p Q k i = conj (scrambling p (i + 1)) ⊗ real (element Q k (i % Q))
 

@@ -24,8 +24,8 @@ abbrev pub longest-field : ℕ
 longest-field = 1104
 
 -- "length 0, above 1104 or no multiple of 16"
-abbrev pub no-field : ℕ → Bool
-no-field n = eqb n 0 || ltb longest-field n || not (eqb (n % 16) 0)
+abbrev pub bad-field-length : ℕ → Bool
+bad-field-length n = eqb n 0 || ltb longest-field n || not (eqb (n % 16) 0)
 
 -- Refuses 1; 3; 4; 12; 16 length 0, above 1104 or no multiple of 16; 17 a component outside -100000 to 100000; 18 an answer buffer
 -- shorter than length/Q. The answer buffers have m and m′ entries.
@@ -35,7 +35,7 @@ read-refusals p Q k re im m m′ =
     3 if not (is-spreading-factor Q) ∷
     4 if leb Q k ∷
     12 if not (eqb (length re) (length im)) ∷
-    16 if no-field (length re) ∷
+    16 if bad-field-length (length re) ∷
     17 if (outside re || outside im) ∷
     18 if either-shorter m m′ (length re / Q) ∷ []
 

@@ -7,7 +7,7 @@ ghost use Rattle.complex.specs.Fits.{Bound};
 ghost use Rattle.complex.specs.Buffers.{listed, value, written};
 ghost use Rattle.codes.specs.Refusals.{refusal-number};
 ghost use Rattle.codes.specs.Tree.{is-spreading-factor};
-ghost use Rattle.read.specs.Reading.{no-field, read-refusals, reading as reading-of};
+ghost use Rattle.read.specs.Reading.{bad-field-length, read-refusals, reading as reading-of};
 ghost use Rattle.read.specs.Multipliers.{multiplied-sum, multiplier as multiplier-of};
 use crate::one;
 use crate::sixteen;
@@ -19,7 +19,7 @@ use complex::Complex;
 
 // Whether no field has n chips: a field has 16 to 1104, a multiple of 16.
 fn is_no_field(n: usize) -> bool
-    ensures { λ r. ⌜ r ≡ no-field n ⌝ }
+    ensures { λ r. ⌜ r ≡ bad-field-length n ⌝ }
 {
     n == 0 || 1104 < n || n % 16 != 0
 }

@@ -19,18 +19,17 @@ use Rattle.codes.specs.declared.Allocated.{Allocated}
 use Rattle.codes.specs.Allocation.{allocation, case-1, case-2, code-set, bad-frame-or-half, one-or-two, allocation-row, signed}
 use Rattle.codes.proofs.Tests.{each-at, none-of, same, same→eq}
 use Rattle.analyser_parts.proofs.Products.{times-conj}
-use Rattle.read_sync.specs.SyncReading.{candidate, candidates, candidate-codes}
+use Rattle.read_sync.specs.SyncReading.{candidate, candidate-count, candidate-codes}
 use Rattle.read_sync.specs.Shares.{share-of, shares-of}
-use Rattle.read_sync.specs.Leaders.{leader-of-row, leader-of-signs, Leads, Led, place-in-row}
-use Rattle.read_sync.specs.declared.sync_reading.Leader.{Leader}
+use Rattle.read_sync.specs.Leaders.{leader-of-row, leader-of-signs, Leads, place-in-row}
 use Rattle.read_sync.proofs.Leaders.{leads-cong, leads-placed}
-use Rattle.read_sync.proofs.SumLeaders.{leads-of-signs, leads-with, with-led}
+use Rattle.read_sync.proofs.SumLeaders.{leads-of-signs, leads-with}
 
 -- ---- the cases
 pub record Case (case : ℕ) : Type 0 where
   pub some : 0 < case
   pub below : case < 3
-  pub sets : candidates case ≡ 32 * (2 * case)
+  pub sets : candidate-count case ≡ 32 * (2 * case)
 
 pub case-known : (case : ℕ) → one-or-two case ≡ true → Case case
 unfolding one-or-two

@@ -21,7 +21,7 @@ leader-of-signs x = cond (ltZ x (pos 0)) (record { at = 1; score = negℤ x; alo
 abbrev pub leader-with : Leader → Leader → Leader
 leader-with b c = record { at = 2 * b .at + c .at; score = b .score +ℤ c .score; alone = b .alone && c .alone }
 
--- the leader once the candidates from n on are met, c theirs
+-- the leader once the candidates from n on are met too, c being the leader of those
 abbrev pub leader-or-later : Leader → ℕ → Leader → Leader
 leader-or-later b n c =
     cond (ltZ (b .score) (c .score)) (record { at = n + c .at; score = c .score; alone = c .alone })

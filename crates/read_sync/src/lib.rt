@@ -1,7 +1,7 @@
 // The analyser's call read sync: what a sync burst was sent for. It takes any case and any buffers, writes to
 // none, and refuses by document 01's number.
 ghost use mathlib.Core.Path.{_≡_};
-ghost use Rattle.read_sync.specs.SyncReading.{read-sync-call, answer-of-sync};
+ghost use Rattle.read_sync.specs.SyncReading.{read-sync-call, answer-of-read-sync};
 use codes::CodeGroup;
 
 mod sums;
@@ -23,7 +23,7 @@ pub enum SyncAnswer {
 // Refuses 14 case not 1 or 2; 12 re and im differ in length; 16 length not 256; 17 a component outside -100000 to 100000;
 // 19 where no candidate beats all others.
 pub fn read_sync(case: u32, re: &[i32], im: &[i32]) -> SyncAnswer
-    ensures { λ r. ⌜ answer-of-sync r ≡ read-sync-call case (now (re .entry)) (now (im .entry)) ⌝ }
+    ensures { λ r. ⌜ answer-of-read-sync r ≡ read-sync-call case (now (re .entry)) (now (im .entry)) ⌝ }
 {
     let number = sync_reading::refusal(case, re, im);
     if number != 0 {

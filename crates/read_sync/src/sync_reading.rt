@@ -14,7 +14,7 @@ ghost use Rattle.codes.specs.PackedSigns.{packed};
 ghost use Rattle.codes.specs.SyncCodes.{a, b};
 ghost use Rattle.codes.specs.Allocation.{allocation-row, one-or-two};
 ghost use Rattle.analyser_parts.specs.PartSums.{correlated, part-sums};
-ghost use Rattle.read_sync.specs.SyncReading.{candidate as candidate-of, candidate-codes, candidates, score as score-of, sync-refusals};
+ghost use Rattle.read_sync.specs.SyncReading.{candidate as candidate-of, candidate-codes, candidate-count, score as score-of, read-sync-refusals};
 ghost use Rattle.read_sync.specs.Shares.{product as product-of, shares-of};
 ghost use Rattle.read_sync.specs.Leaders.{leader-in-row, leader-of-row, leader-of-signs, leader-or-later, leader-with, Leads, Led, place-in-row, SmallSet};
 use crate::Candidate;
@@ -35,7 +35,7 @@ use complex::Complex;
 
 // The number of read sync's refusal by the first four tests, before the chips are compared with the codes, or 0.
 pub fn refusal(case: u32, re: &[i32], im: &[i32]) -> u32
-    ensures { λ r. ⌜ r ≡ refusal-number (take 4 (sync-refusals case (now (re .entry)) (now (im .entry)))) ⌝ }
+    ensures { λ r. ⌜ r ≡ refusal-number (take 4 (read-sync-refusals case (now (re .entry)) (now (im .entry)))) ⌝ }
 {
     if !burst::one_or_two(case) {
         return 14;
@@ -293,7 +293,7 @@ fn set_leader(re: &[i64; 16], im: &[i64; 16], case: u32, n: u32) -> Leader
 // The leader of all candidates, set by set: two sets in case 1, four in case 2.
 fn lead_of_all(re: &[i64; 16], im: &[i64; 16], case: u32) -> Leader
     requires { ⌜ (one-or-two case ≡ true) × Bound 5300000000000000 (now re) × Bound 5300000000000000 (now im) ⌝ }
-    ensures { λ r. ⌜ Leads (λ n. shares-of (value (now (re .entry)) (now (im .entry))) (candidate-codes case (candidate-of case n))) (candidates case) r ⌝ }
+    ensures { λ r. ⌜ Leads (λ n. shares-of (value (now (re .entry)) (now (im .entry))) (candidate-codes case (candidate-of case n))) (candidate-count case) r ⌝ }
 {
     let mut leader = set_leader(re, im, case, 0);
     for n in 1..2 * case {
@@ -305,7 +305,7 @@ fn lead_of_all(re: &[i64; 16], im: &[i64; 16], case: u32) -> Leader
 // The leader for 256 chips: the sums of each 16 chips are made once, and serve every code.
 pub fn lead(case: u32, re: &[i32], im: &[i32]) -> Leader
     requires { ⌜ (one-or-two case ≡ true) × (length (now re) ≡ 256) × (length (now im) ≡ 256) × Bound 100000 (now re) × Bound 100000 (now im) ⌝ }
-    ensures { λ r. ⌜ Leads (score-of case (value (now (re .entry)) (now (im .entry)))) (candidates case) r ⌝ }
+    ensures { λ r. ⌜ Leads (score-of case (value (now (re .entry)) (now (im .entry)))) (candidate-count case) r ⌝ }
 {
     let x = parts(re);
     let y = parts(im);

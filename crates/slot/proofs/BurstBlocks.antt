@@ -22,7 +22,7 @@ use Rattle.modulation.proofs.BurstParts.{burst-both}
 use Rattle.slot.specs.declared.Sync.{Sync}
 use Rattle.slot.specs.Setup.{SyncSetup}
 use Rattle.slot.specs.Slot.{falls-on, sync-chip}
-use Rattle.slot.specs.Tables.{view-sync}
+use Rattle.slot.specs.View.{view-sync}
 use Rattle.slot.proofs.BurstPlace.{cell-start, sync-inside, sync-outside}
 
 -- ---- the settings as the struct holds them

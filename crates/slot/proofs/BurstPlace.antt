@@ -18,7 +18,7 @@ use Rattle.codes.specs.Burst.{burst, burst-start}
 use Rattle.codes.proofs.Tests.{each-at}
 use Rattle.slot.specs.declared.parts.Parts.{Parts}
 use Rattle.slot.specs.Setup.{SyncSetup, Setup}
-use Rattle.slot.specs.Slot.{burst-type, data-chip, sync-chip, chip}
+use Rattle.slot.specs.Slot.{slot-parts, data-chip, sync-chip, chip}
 
 -- the chip of the slot at which the burst of a cell starts
 abbrev pub cell-start : ℕ → ℕ
@@ -55,18 +55,18 @@ fits-first t g = leb (burst-start g + 256) (t .field1)
 fits-second : Parts → ℕ → Bool
 fits-second t g = leb (t .field1 + t .midamble) (burst-start g) && leb (burst-start g + 256) (t .field1 + t .midamble + t .field2)
 
-groups-test : T (each 32 (λ g. fits-first (burst-type 1) g || fits-second (burst-type 1) g))
-unfolding each fits-first fits-second burst-type
+groups-test : T (each 32 (λ g. fits-first (slot-parts 1) g || fits-second (slot-parts 1) g))
+unfolding each fits-first fits-second slot-parts
 groups-test = tt
 
 -- "256 chips, unscrambled, starting at chip 48g for g below 16 and 720 + 48g from 16 on": in a slot of type 1 none of them is a midamble or guard chip
-pub burst-inside : (g : ℕ) → g < 32 → InsideField (burst-type 1) (burst-start g) 256
+pub burst-inside : (g : ℕ) → g < 32 → InsideField (slot-parts 1) (burst-start g) 256
 unfolding fits-first fits-second
 burst-inside g h =
     read (or-yes (fits-first t g) (fits-second t g) (each-at 32 (λ g. fits-first t g || fits-second t g) groups-test g h))
   where
     t : Parts
-    t = burst-type 1
+    t = slot-parts 1
 
     read : T (fits-first t g) ⊎ T (fits-second t g) → InsideField t (burst-start g) 256
     read (inl a) = inl (leb→le _ _ a)
@@ -78,13 +78,13 @@ abbrev pub without-sync : Setup → Setup
 without-sync s = record { cell = s .cell; type = s .type; channel = s .channel; sync = none }
 
 -- a chip of a field is that sum plus the burst's chip
-field-chip-is : (s : Setup) (x : ℕ) → InsideField (burst-type (s .type)) x 1 → chip s x ≡ chip (without-sync s) x ⊕ sync-chip (s .cell) (s .sync) x
+field-chip-is : (s : Setup) (x : ℕ) → InsideField (slot-parts (s .type)) x 1 → chip s x ≡ chip (without-sync s) x ⊕ sync-chip (s .cell) (s .sync) x
 unfolding chip data-chip sync-chip
 field-chip-is s x (inl h) =
-    let t = burst-type (s .type) in
+    let t = slot-parts (s .type) in
     rw (lt-ltb x (t .field1) (omega arith), zero-add, ⊕-𝟎)
 field-chip-is s x (inr h) =
-    let t = burst-type (s .type) in
+    let t = slot-parts (s .type) in
     let second = t .field1 + t .midamble in
     let e : second + (x - second) ≡ x = omega arith in
     rw (le-ltb x (t .field1) (omega arith), le-ltb x second (h .0), lt-ltb x (second + t .field2) (omega arith), e, ⊕-𝟎)
@@ -96,7 +96,7 @@ pub burst-whole : (s : Setup) (y : SyncSetup) → s .type ≡ 1 → s .cell < 12
 burst-whole s y t c e n h =
     let g = code-group (s .cell) in
     let x = burst-start g + n in
-    let f : InsideField (burst-type (s .type)) x 1 = rw t (one (burst-type 1) (burst-start g) (burst-inside g (omega arith))) in
+    let f : InsideField (slot-parts (s .type)) x 1 = rw t (one (slot-parts 1) (burst-start g) (burst-inside g (omega arith))) in
     field-chip-is s x f ∙ ap (λ (z : Complex). chip (without-sync s) x ⊕ z) (ap (λ (o : Option SyncSetup). sync-chip (s .cell) o x) e ∙ sync-inside (s .cell) y n h)
   where
     one : (t : Parts) (x : ℕ) → InsideField t x 256 → InsideField t (x + n) 1

@@ -10,7 +10,7 @@ use lib.Dec.{ltb}
 use Rattle.complex.specs.Arithmetic.{𝟎}
 use Rattle.slot.specs.declared.parts.Parts.{Parts}
 use Rattle.slot.specs.Setup.{Setup}
-use Rattle.slot.specs.Slot.{burst-type, field-chip, chip}
+use Rattle.slot.specs.Slot.{slot-parts, field-chip, chip}
 
 -- two tests that hold of the same cases
 same-test : (a b c d : ℕ) → (a < b → c < d) → (b ≤ a → d ≤ c) → ltb a b ≡ ltb c d
@@ -52,7 +52,7 @@ module _ {t : Parts} {from n a b c : ℕ} (h : Cuts t from n a b c) where
   pub second-inside : 0 < c - b → from - (t .field1 + t .midamble) + (c - b) ≤ t .field2
   second-inside l = cut-inside from (t .field1 + t .midamble) (t .field2) b c (omega (arith, h .midamble, h .field2)) (omega (arith, h .field2)) l
 
-  module _ (s : Setup) (e : t ≡ burst-type (s .type)) (i : ℕ) where
+  module _ (s : Setup) (e : t ≡ slot-parts (s .type)) (i : ℕ) where
     -- a chip by the part that it falls in
     by-parts : (x : ℕ) → chip s x ≡ cond (ltb x (t .field1)) (field-chip s 0 0 x)
         (cond (ltb x (t .field1 + t .midamble)) 𝟎

@@ -18,8 +18,8 @@ module _ (Q w before first c : ℕ) (q : 0 < Q) (e : Q * w ≡ 16) (b : before %
   pub pair-below : c / Q < w
   pair-below = div-lt-iff-lt-mul q .1 (omega (arith, e))
 
-  pair-number : before / Q + (first + c) / Q ≡ w * (before / 16 + first / 16) + c / Q
-  pair-number =
+  pair-in-blocks : before / Q + (first + c) / Q ≡ w * (before / 16 + first / 16) + c / Q
+  pair-in-blocks =
       let h : before / Q ≡ w * (before / 16) = ap (λ (n : ℕ). n / Q) (whole before b) ∙ mul-div-cancel-left (w * (before / 16)) q in
       let g : (first + c) / Q ≡ w * (first / 16) + c / Q = ap (λ (n : ℕ). (n + c) / Q) (whole first f) ∙ mul-add-div q (w * (first / 16)) c in
       omega (arith, h, g)
@@ -30,7 +30,7 @@ module _ (Q w before first c : ℕ) (q : 0 < Q) (e : Q * w ≡ 16) (b : before %
       let m = before / 16 + first / 16 in
       let r : (c / Q) / w ≡ 0 = div-eq-of-lt pair-below in
       let p : 0 < w = omega (arith, pair-below) in
-      rw pair-number
+      rw pair-in-blocks
       (omega (arith, mul-add-div p m (c / Q), r, mul-add-mod-self-left w m (c / Q), mod-eq-of-lt pair-below))
 
   -- it is a pair of the d chips of all fields
@@ -39,4 +39,4 @@ module _ (Q w before first c : ℕ) (q : 0 < Q) (e : Q * w ≡ 16) (b : before %
       let s : 2 * d ≡ Q * (2 * (w * (d / 16))) = omega (arith, whole d h) in
       let t : 2 * d / Q ≡ 2 * (w * (d / 16)) = ap (λ (n : ℕ). n / Q) s ∙ mul-div-cancel-left (2 * (w * (d / 16))) q in
       let m : before / 16 + first / 16 + 1 ≤ d / 16 = omega arith in
-      omega (arith, t, pair-number, pair-below, mul-le-mul-left w m)
+      omega (arith, t, pair-in-blocks, pair-below, mul-le-mul-left w m)

@@ -19,9 +19,9 @@ use Rattle.codes.specs.Tree.{is-spreading-factor, element, width}
 use Rattle.codes.proofs.Leaves.{leaves-within}
 use Rattle.slot.specs.declared.Settings.{Settings}
 use Rattle.modulation.specs.Symbols.{pair, symbol}
-use Rattle.slot.specs.Slot.{data-chips, bit-count, channel-chip, data-chip}
+use Rattle.slot.specs.Slot.{data-chip-count, bit-count, channel-chip, data-chip}
 use Rattle.modulation.specs.Nodes.{node}
-use Rattle.slot.specs.Tables.{place, held-bit, held-channel, view-channel, view}
+use Rattle.slot.specs.View.{entry-of-pair, held-bit, held-channel, view-channel, view}
 use Rattle.modulation.specs.SixteenChips.{level-sum, summed}
 use Rattle.slot.proofs.Lengths.{lengths-of}
 use Rattle.slot.proofs.Places.{code-place, pair-below, pair-place, pair-inside}
@@ -35,17 +35,17 @@ abbrev pub summed-chip : List ℕ → (ℕ → Complex) → ℕ → Complex
 summed-chip gains y c = summed gains (listed 16 (λ i. y i .re)) c +j summed gains (listed 16 (λ i. y i .im)) c
 
 -- the two bits of an entry are its pair
-pair-held : (pairs : List ℕ) (Q k m n : ℕ) → 2 * n + 1 < m → pair (listed m (held-bit pairs Q k)) n ≡ getD pairs (place Q k n) 0
+pair-held : (pairs : List ℕ) (Q k m n : ℕ) → 2 * n + 1 < m → pair (listed m (held-bit pairs Q k)) n ≡ getD pairs (entry-of-pair Q k n) 0
 pair-held pairs Q k m n l =
-    let v = getD pairs (place Q k n) 0 in
+    let v = getD pairs (entry-of-pair Q k n) 0 in
     let first : getD (listed m (held-bit pairs Q k)) (2 * n) 0 ≡ v / 2 =
     listed-at (held-bit pairs Q k) 0 m (2 * n) (omega arith) ∙ bit (2 * n) (omega arith) ∙ rw (eq-eqb (2 * n % 2) 0 (omega arith)) in
     let second : getD (listed m (held-bit pairs Q k)) (2 * n + 1) 0 ≡ v % 2 =
     listed-at (held-bit pairs Q k) 0 m (2 * n + 1) l ∙ bit (2 * n + 1) (omega arith) ∙ rw (ne-eqb ((2 * n + 1) % 2) 0 (omega arith)) in
     omega (arith, first, second)
   where
-    bit : (i : ℕ) → i / 2 ≡ n → held-bit pairs Q k i ≡ (let v = getD pairs (place Q k n) 0 in cond (eqb (i % 2) 0) (v / 2) (v % 2))
-    bit i e = ap (λ (j : ℕ). let v = getD pairs (place Q k j) 0 in cond (eqb (i % 2) 0) (v / 2) (v % 2)) e
+    bit : (i : ℕ) → i / 2 ≡ n → held-bit pairs Q k i ≡ (let v = getD pairs (entry-of-pair Q k n) 0 in cond (eqb (i % 2) 0) (v / 2) (v % 2))
+    bit i e = ap (λ (j : ℕ). let v = getD pairs (entry-of-pair Q k j) 0 in cond (eqb (i % 2) 0) (v / 2) (v % 2)) e
 
 -- a gain of 0 is a channel that is not open
 channel-held : (p before q Q k g : ℕ) (bits : List ℕ) → channel-chip p before q Q k (held-channel g bits)
@@ -68,7 +68,7 @@ by-component g e x y =
 common : (x a b c d e : Complex) → 𝟎 ⊕ x ⊗ a ⊕ x ⊗ b ⊕ x ⊗ c ⊕ x ⊗ d ⊕ x ⊗ e ≡ x ⊗ (𝟎 ⊕ a ⊕ b ⊕ c ⊕ d ⊕ e)
 common x a b c d e = sym (simp (⊗-⊕, ⊗-𝟎))
 
-module _ (s : Settings) (before first c : ℕ) (b : before % 16 ≡ 0) (f : first % 16 ≡ 0) (l : c < 16) (d : before + first + c < data-chips (s .kind)) where
+module _ (s : Settings) (before first c : ℕ) (b : before % 16 ≡ 0) (f : first % 16 ≡ 0) (l : c < 16) (d : before + first + c < data-chip-count (s .kind)) where
   abbrev y : ℕ → Complex
   y = symbols-from s (before + first)
 
@@ -92,7 +92,7 @@ module _ (s : Settings) (before first c : ℕ) (b : before % 16 ≡ 0) (f : firs
       let bits = listed (bit-count (s .kind) Q) (held-bit (s .pairs) Q k) in
       let held : view-channel s Q k ≡ held-channel g bits = rw (t, lt-ltb k Q h) in
       let inside : 2 * (before / Q + (first + c) / Q) + 1 < bit-count (s .kind) Q =
-      pair-inside Q (width Q) before first c q e b f l (data-chips (s .kind)) (lengths-of (s .kind) .chips) d in
+      pair-inside Q (width Q) before first c q e b f l (data-chip-count (s .kind)) (lengths-of (s .kind) .chips) d in
       let symbol-is : pair bits (before / Q + (first + c) / Q) ≡ getD (s .pairs) (before + first + j) 0 =
       pair-held (s .pairs) Q k _ _ inside ∙ ap (λ (m : ℕ). getD (s .pairs) m 0) (pair-place Q (width Q) before first c q e b f l k) in
       let m : j < 16 = omega (arith, pair-below Q (width Q) before first c q e b f l, leaves-within Q k h) in

@@ -1,4 +1,4 @@
--- How the code makes the chips of a slot, sixteen at a time. Nothing here is document 01's: the contracts of the bench's calls do not name it.
+-- How the functions make the chips of a slot, sixteen at a time. Nothing here is document 01's: the contracts of the bench's calls do not name it.
 use lib.IntN.{ℤ}
 use Prim.Native.Nat.{ℕ, _+_, _-_, _%_}
 use mathlib.Core.List.{List}
@@ -7,7 +7,7 @@ use Rattle.complex.specs.Arithmetic.{_⊕_}
 use Rattle.modulation.specs.SixteenChips.{block-chip}
 use Rattle.slot.specs.declared.Sync.{Sync}
 use Rattle.slot.specs.Slot.{sync-chip}
-use Rattle.slot.specs.Tables.{view-sync}
+use Rattle.slot.specs.View.{view-sync}
 
 -- chip q of a field, with the burst's: as `field-chip`, from its block. `before` is how many chips the fields before it have, `start` the slot's chip at
 -- which it starts

@@ -1,4 +1,4 @@
 pub mod Setup
 pub mod Slot
-pub mod Tables
+pub mod View
 pub mod FieldBlocks

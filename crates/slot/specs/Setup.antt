@@ -17,7 +17,7 @@ pub record SyncSetup : Type 0 where
   pub gP : ℕ
   pub gS : ℕ
 
--- the settings; `channel Q k` is what code (Q, k) holds where it is open
+-- the settings, as document 01 has them (`Settings` is the struct that holds them in tables); `channel Q k` is what code (Q, k) holds where it is open
 pub record Setup : Type 0 where
   pub cell : ℕ
   pub type : ℕ

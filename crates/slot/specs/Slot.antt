@@ -23,8 +23,8 @@ abbrev pub lengths : ℕ → ℕ → ℕ → ℕ → Parts
 lengths f1 m f2 g = record { field1 = f1; midamble = m; field2 = f2; guard = g }
 
 -- | burst type | field 1 | midamble | field 2 | guard |; a type that is not listed has no field
-unfoldable pub burst-type : ℕ → Parts
-burst-type t =
+unfoldable pub slot-parts : ℕ → Parts
+slot-parts t =
     getD (
     lengths 0 0 0 2560 ∷
     lengths 976 512 976 96 ∷
@@ -32,12 +32,12 @@ burst-type t =
     lengths 976 512 880 192 ∷ []) t (lengths 0 0 0 2560)
 
 -- F1 + F2, F1 and F2 being the field lengths of type t
-abbrev pub data-chips : ℕ → ℕ
-data-chips t = burst-type t .field1 + burst-type t .field2
+abbrev pub data-chip-count : ℕ → ℕ
+data-chip-count t = slot-parts t .field1 + slot-parts t .field2
 
 -- A channel has 2(F1+F2)/Q bits.
 abbrev pub bit-count : ℕ → ℕ → ℕ
-bit-count t Q = 2 * data-chips t / Q
+bit-count t Q = 2 * data-chip-count t / Q
 
 -- Chip q of a field (from 0) is, for one channel, gain × symbol (q div Q) × code element (q mod Q) × complex scrambling element 1 + (q mod 16).
 -- The index restarts in each field; field 1's bits come first, then field 2's: `before` is the number of chips of the fields before this one.
@@ -54,7 +54,7 @@ over-codes f = over-factors _⊕_ 𝟎 (λ Q. Σ< Q (f Q))
 unfoldable pub data-chip : Setup → ℕ → ℕ → Complex
 data-chip s before q = over-codes (λ Q k. channel-chip (s .cell) before q Q k (s .channel Q k))
 
--- the sync burst falls on chip x of the slot: 256 chips, from the start of the cell's group on
+-- the sync burst falls on chip x of the slot: 256 chips, from the burst start of the cell's group on
 abbrev pub falls-on : ℕ → Option SyncSetup → ℕ → Bool
 falls-on p none x = false
 falls-on p (some y) x = let start = burst-start (code-group p) in leb start x && ltb x (start + 256)
@@ -66,14 +66,14 @@ sync-chip p (some y) x =
     let g = code-group p in
     cond (falls-on p (some y) x) (burst (y .case) g (y .frame) (y .half) (y .gP) (y .gS) (x - burst-start g)) 𝟎
 
--- The slot's chip is the sum over open channels, plus the sync burst where it falls: chip q of a field that starts at the slot's chip `start`
+-- chip q of a field that starts at the slot's chip `start`: "the sum over open channels, plus the sync burst where it falls"
 abbrev pub field-chip : Setup → ℕ → ℕ → ℕ → Complex
 field-chip s before start q = data-chip s before q ⊕ sync-chip (s .cell) (s .sync) (start + q)
 
--- Chip x of the slot, from 0; 0 past its end. Midamble and guard chips are 0; a burst lies whole inside one field (`burst-inside`).
+-- The slot's chip, number x, from 0; 0 past its end. Midamble and guard chips are 0; a burst lies whole inside one field (`burst-inside`).
 unfoldable pub chip : Setup → ℕ → Complex
 chip s x =
-    let t = burst-type (s .type) in
+    let t = slot-parts (s .type) in
     let second = t .field1 + t .midamble in
     cond (ltb x (t .field1)) (field-chip s 0 0 x)
     (cond (ltb x second) 𝟎

@@ -4,7 +4,7 @@ ghost use Prim.Native.Nat.{_+_, _%_};
 ghost use Rattle.complex.specs.Fits.{Bound};
 ghost use Rattle.modulation.specs.SixteenChips.{block-of};
 ghost use Rattle.slot.specs.Slot.{falls-on, sync-chip};
-ghost use Rattle.slot.specs.Tables.{view-sync};
+ghost use Rattle.slot.specs.View.{view-sync};
 use crate::Sync;
 use codes::CellParameter;
 use codes::burst;

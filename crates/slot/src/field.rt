@@ -10,7 +10,7 @@ ghost use Rattle.complex.specs.Buffers.{listed, value};
 ghost use Rattle.complex.specs.Fits.{Bound};
 ghost use Rattle.modulation.specs.SixteenChips.{block-chip, levels-of};
 ghost use Rattle.slot.specs.Slot.{chip, sync-chip};
-ghost use Rattle.slot.specs.Tables.{settings-of, view, view-sync};
+ghost use Rattle.slot.specs.View.{settings-of, view, view-sync};
 ghost use Rattle.slot.specs.FieldBlocks.{chip-by-blocks};
 use crate::Sync;
 use crate::burst;
@@ -238,7 +238,7 @@ pub fn write<'a>(
     ensures real { λ r. ⌜ now (re .exit) ≡ listed (length (now (re .entry))) (λ i. chip (view (settings-of cell kind (now (gains .entry)) (now (pairs .entry)) sync)) (from + i) .re) ⌝ }
     ensures imaginary { λ r. ⌜ now (im .exit) ≡ listed (length (now (im .entry))) (λ i. chip (view (settings-of cell kind (now (gains .entry)) (now (pairs .entry)) sync)) (from + i) .im) ⌝ }
 {
-    let t = data::sign_pairs(cell);
+    let t = data::scrambling_signs(cell);
     let tre = t.re;
     let tim = t.im;
     let levels = data::open_levels(gains);

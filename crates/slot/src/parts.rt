@@ -1,6 +1,6 @@
 // The four parts of a slot.
 ghost use mathlib.Core.Path.{_≡_};
-ghost use Rattle.slot.specs.Slot.{burst-type, lengths};
+ghost use Rattle.slot.specs.Slot.{slot-parts, lengths};
 
 // How many chips each part has.
 pub struct Parts {
@@ -23,7 +23,7 @@ fn lengths(field1: usize, midamble: usize, field2: usize, guard: usize) -> Parts
 
 // The parts of a burst type, 1, 2 or 3; any other has no field.
 pub fn parts_of(kind: u32) -> Parts
-    ensures { λ r. ⌜ r ≡ burst-type kind ⌝ }
+    ensures { λ r. ⌜ r ≡ slot-parts kind ⌝ }
 {
     match kind {
         1 => lengths(976, 512, 976, 96),

@@ -17,9 +17,9 @@ use Rattle.codes.specs.Tree.{is-spreading-factor}
 use Rattle.codes.proofs.Leaves.{each-code, at-code}
 use Rattle.codes.proofs.Tests.{agree, agree→eq, each-at, none-at, T-true}
 use Rattle.modulation.specs.Symbols.{pair}
-use Rattle.modulation.specs.Nodes.{node}
+use Rattle.modulation.specs.Nodes.{node, open-at}
 use Rattle.tables.specs.Bits.{is-entry-of, pair-of-entry, pairs-with-bits}
-use Rattle.tables.specs.OpenCodes.{is-leaf-open, open-at, some-over}
+use Rattle.tables.specs.OpenCodes.{is-leaf-open, some-over}
 use Rattle.tables.specs.PairChanges.{cleared, with-open-cleared}
 use Rattle.tables.proofs.Blocks.{Code}
 

@@ -1,6 +1,6 @@
 -- The bits of a load: the test of their bytes, and where they stand in the settings' table of pairs.
 --
--- The table has 2,208 entries, one for each data chip of the longest slot (2 × 1104), sixteen for each block of 16 chips, both fields in a row. An entry
+-- The table has 2,208 entries, one for each data chip of burst type 2, which has the most (2 × 1104), sixteen for each block of 16 chips, both fields in a row. An entry
 -- is a pair of bits, as a number from 0 to 3. A code of factor Q sends 16/Q symbols in a block, so it has 16/Q entries there: code (Q, k) those from
 -- k·16/Q on. Code (4, 1), say, has entries 4 to 7 of each block, which are its pairs 0 to 3, then 4 to 7, and so on. Where two codes are unrelated,
 -- no entry is one of both.

@@ -1,4 +1,4 @@
--- How the code changes the table of pairs, part by part and leaf by leaf. Nothing here is document 01's: the contracts of the bench's calls do not name it.
+-- How the functions change the table of pairs, part by part and leaf by leaf. Nothing here is document 01's: the contracts of the bench's calls do not name it.
 use Prim.Native.Nat.{ℕ, _+_, _-_, _%_}
 use mathlib.Core.Bool.{Bool, false, _&&_, cond}
 use mathlib.Core.List.{List}

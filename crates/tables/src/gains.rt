@@ -4,8 +4,8 @@ ghost use mathlib.Core.Bool.{_||_};
 ghost use Prim.Native.Nat.{_<_, _≤_};
 ghost use lib.ListN.{set};
 ghost use Rattle.codes.specs.Range.{any};
-ghost use Rattle.modulation.specs.Nodes.{node as node-of};
-ghost use Rattle.tables.specs.OpenCodes.{clashes, open-at};
+ghost use Rattle.modulation.specs.Nodes.{node as node-of, open-at};
+ghost use Rattle.tables.specs.OpenCodes.{clashes};
 use codes::tree;
 
 // Where the gain of code (q, k) stands.

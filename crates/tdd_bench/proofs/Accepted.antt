@@ -6,14 +6,14 @@ use lib.IntN.{ℤ}
 use Rattle.codes.specs.declared.CellParameter.{CellParameter}
 use Rattle.codes.specs.Refusals.{Answer, refused, gives}
 use Rattle.codes.proofs.Refused.{numbered, 0-accepts, ZeroAccepts}
-use Rattle.slot.specs.Tables.{view}
+use Rattle.slot.specs.View.{view}
 use Rattle.bench.specs.declared.Bench.{Bench}
 use Rattle.bench.specs.declared.Channel.{Channel}
 use Rattle.bench.specs.BenchCalls.{AnswerAt, refused-at, loads, clear-sync-call, close-call, close-refusals, draw-call, draw-refusals, load-bits-call, load-bits-refusals, load-plan-call, open-call, open-refusals, opened-in-order, plan-outcome, set-cell-call, set-cell-refusals, set-gain-call, set-gain-refusals, set-sync-call, set-sync-refusals, start-call, start-refusals, is-running}
 use Rattle.bench.specs.Changes.{all-closed, with-settings}
 use Rattle.read.specs.Reading.{read-call, read-refusals}
 use Rattle.harden.specs.Hardening.{harden-call, harden-refusals}
-use Rattle.read_sync.specs.SyncReading.{read-sync-call, sync-refusals}
+use Rattle.read_sync.specs.SyncReading.{read-sync-call, read-sync-refusals}
 use Rattle.find.specs.Finding.{find-call, find-refusals}
 use Rattle.tdd_bench.specs.PlanResults.{plan-refusal-of}
 
@@ -81,7 +81,7 @@ harden-0 re im m = 0-accepts _ (harden-refusals re im m) tt
 
 pub read-sync-0 : (case : ℕ) (re im : List ℤ) → ZeroAccepts (read-sync-call case re im)
 unfolding numbered
-read-sync-0 case re im = 0-accepts _ (sync-refusals case re im) tt
+read-sync-0 case re im = 0-accepts _ (read-sync-refusals case re im) tt
 
 pub find-0 : (re im : List ℤ) (m m′ : ℕ) → ZeroAccepts (find-call re im m m′)
 unfolding numbered

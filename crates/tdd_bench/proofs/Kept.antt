@@ -6,7 +6,7 @@ use Prim.Native.Nat.{ℕ}
 use lib.Dec.{eqb}
 use Rattle.codes.specs.Refusals.{after, _if_, _otherwise_}
 use Rattle.bench.specs.declared.Bench.{Bench}
-use Rattle.bench.specs.BenchCalls.{Draw, draw-call, is-running}
+use Rattle.bench.specs.BenchCalls.{AcceptedDraw, draw-call, is-running}
 
 abbrev taken-back : Bench → Bench → Bench
 taken-back b left = record { settings = b .settings; running = left .running; sending = b .sending; position = left .position }
@@ -14,7 +14,7 @@ taken-back b left = record { settings = b .settings; running = left .running; se
 pub draw-keeps : (b : Bench) (n n′ : ℕ) → let left = after (draw-call b n n′) b (λ d. d .bench) in taken-back b left ≡ left
 draw-keeps b n n′ = go (not (is-running b)) (not (eqb n n′)) _ refl
   where
-    go : (s t : Bool) (d : Draw) → taken-back b (d .bench) ≡ d .bench → let left = after ((11 if s ∷ 12 if t ∷ []) otherwise d) b (λ d. d .bench) in taken-back b left ≡ left
+    go : (s t : Bool) (d : AcceptedDraw) → taken-back b (d .bench) ≡ d .bench → let left = after ((11 if s ∷ 12 if t ∷ []) otherwise d) b (λ d. d .bench) in taken-back b left ≡ left
     go true t d e = refl
     go false true d e = refl
     go false false d e = e

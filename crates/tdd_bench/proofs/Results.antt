@@ -1,10 +1,10 @@
--- What a call told of its answer, as a C struct holds it. Assumes nothing.
+-- A call's answer, as a C struct holds it. Assumes nothing.
 use mathlib.Core.Path.{_≡_, ap, _∙_}
 use Prim.Native.Nat.{ℕ}
 use Rattle.codes.specs.Refusals.{Answer, refused, gives, outcome, after, refusal-of}
 use Rattle.codes.proofs.Refused.{held, refusal-of-outcome}
 use Rattle.bench.specs.declared.Bench.{Bench}
-use Rattle.bench.specs.BenchCalls.{AnswerAt, refused-at, loads, Draw, counted, left-by, plan-outcome}
+use Rattle.bench.specs.BenchCalls.{AnswerAt, refused-at, loads, AcceptedDraw, draw-outcome, left-by, plan-outcome}
 use Rattle.tdd_bench.specs.PlanResults.{place-of, plan-refusal-of}
 
 -- a call whose answer has no value
@@ -18,7 +18,7 @@ pub called : (a : Answer Bench) (b : Bench) {n : ℕ} {t : Answer (Unit {0})} {n
 called a b c e = (c .0 ∙ answer-refusal a (e .0), c .1 ∙ e .1)
 
 -- a draw tells its count
-pub answer-count : (a : Answer Draw) {t : Answer ℕ} → t ≡ counted a → (refusal-of t ≡ refusal-of a) × (after t 0 (λ m. m) ≡ after a 0 (λ d. d .count))
+pub answer-count : (a : Answer AcceptedDraw) {t : Answer ℕ} → t ≡ draw-outcome a → (refusal-of t ≡ refusal-of a) × (after t 0 (λ m. m) ≡ after a 0 (λ d. d .count))
 answer-count (refused n) e = held 0 (λ m. m) e
 answer-count (gives d) e = held 0 (λ m. m) e
 

@@ -3,7 +3,7 @@ use mathlib.Core.Bool.{not}
 use mathlib.Core.List.{[], _∷_}
 use Prim.Native.Nat.{ℕ}
 use lib.Dec.{leb}
-use Rattle.codes.specs.Calls.{code-group-call, element-call, related-call, scrambling-call, allocation-call, burst-start-call, primary-call, secondary-call}
+use Rattle.codes.specs.Calls.{code-group-call, element-call, related-call, scrambling-chip-call, allocation-call, burst-start-call, primary-chip-call, secondary-chip-call}
 use Rattle.codes.specs.Refusals.{_if_}
 use Rattle.codes.specs.Tree.{is-spreading-factor}
 use Rattle.codes.specs.Allocation.{one-or-two, bad-frame-or-half}
@@ -23,15 +23,15 @@ pub code-group-0 : (p : ℕ) → ZeroAccepts (code-group-call p)
 unfolding numbered
 code-group-0 p = 0-accepts _ (1 if leb 128 p ∷ []) tt
 
-pub scrambling-0 : (p chip : ℕ) → ZeroAccepts (scrambling-call p chip)
+pub scrambling-0 : (p chip : ℕ) → ZeroAccepts (scrambling-chip-call p chip)
 unfolding numbered
 scrambling-0 p chip = 0-accepts _ (1 if leb 128 p ∷ 16 if leb 16 chip ∷ []) tt
 
-pub primary-0 : (chip : ℕ) → ZeroAccepts (primary-call chip)
+pub primary-0 : (chip : ℕ) → ZeroAccepts (primary-chip-call chip)
 unfolding numbered
 primary-0 chip = 0-accepts _ (16 if leb 256 chip ∷ []) tt
 
-pub secondary-0 : (i chip : ℕ) → ZeroAccepts (secondary-call i chip)
+pub secondary-0 : (i chip : ℕ) → ZeroAccepts (secondary-chip-call i chip)
 unfolding numbered
 secondary-0 i chip = 0-accepts _ (16 if not (is-sync-code i) ∷ 16 if leb 256 chip ∷ []) tt
 

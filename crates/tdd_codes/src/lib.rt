@@ -4,7 +4,7 @@ ghost use mathlib.Core.Path.{_≡_};
 ghost use mathlib.Core.Bool.{cond};
 ghost use lib.IntN.{pos};
 ghost use Rattle.complex.specs.Arithmetic.{𝟎};
-ghost use Rattle.codes.specs.Calls.{code-group-call, element-call, related-call, scrambling-call, answer-of-chip, allocation-call, burst-start-call, primary-call, secondary-call};
+ghost use Rattle.codes.specs.Calls.{code-group-call, element-call, related-call, scrambling-chip-call, answer-of-chip, allocation-call, burst-start-call, primary-chip-call, secondary-chip-call};
 ghost use Rattle.codes.specs.Refusals.{after, refusal-of};
 ghost use Rattle.codes.specs.Allocation.{silent};
 use codes::Allocated;
@@ -126,8 +126,8 @@ fn chip_result(answer: ChipAnswer) -> ChipResult
 // Chip `chip`, from 0, of a cell parameter's scrambling code. Refuses 1 parameter above 127; 16 chip past the end.
 #[no_mangle]
 pub extern "C" fn tdd_scrambling_chip(cell: u32, chip: u32) -> ChipResult
-    ensures refusal { λ r. ⌜ r .refusal ≡ refusal-of (scrambling-call cell chip) ⌝ }
-    ensures chip { λ r. ⌜ r .chip ≡ after (scrambling-call cell chip) 𝟎 (λ x. x) ⌝ }
+    ensures refusal { λ r. ⌜ r .refusal ≡ refusal-of (scrambling-chip-call cell chip) ⌝ }
+    ensures chip { λ r. ⌜ r .chip ≡ after (scrambling-chip-call cell chip) 𝟎 (λ x. x) ⌝ }
 {
     chip_result(codes::scrambling_chip(CellParameter(cell), chip))
 }
@@ -135,8 +135,8 @@ pub extern "C" fn tdd_scrambling_chip(cell: u32, chip: u32) -> ChipResult
 // Chip `chip`, from 0, of the primary sync code. Refuses 16 chip past the end.
 #[no_mangle]
 pub extern "C" fn tdd_primary_chip(chip: u32) -> ChipResult
-    ensures refusal { λ r. ⌜ r .refusal ≡ refusal-of (primary-call chip) ⌝ }
-    ensures chip { λ r. ⌜ r .chip ≡ after (primary-call chip) 𝟎 (λ x. x) ⌝ }
+    ensures refusal { λ r. ⌜ r .refusal ≡ refusal-of (primary-chip-call chip) ⌝ }
+    ensures chip { λ r. ⌜ r .chip ≡ after (primary-chip-call chip) 𝟎 (λ x. x) ⌝ }
 {
     chip_result(codes::primary_chip(chip))
 }
@@ -144,8 +144,8 @@ pub extern "C" fn tdd_primary_chip(chip: u32) -> ChipResult
 // Chip `chip`, from 0, of secondary sync code `number`. Refuses 16 for a number not listed or a chip past the end.
 #[no_mangle]
 pub extern "C" fn tdd_secondary_chip(number: u32, chip: u32) -> ChipResult
-    ensures refusal { λ r. ⌜ r .refusal ≡ refusal-of (secondary-call number chip) ⌝ }
-    ensures chip { λ r. ⌜ r .chip ≡ after (secondary-call number chip) 𝟎 (λ x. x) ⌝ }
+    ensures refusal { λ r. ⌜ r .refusal ≡ refusal-of (secondary-chip-call number chip) ⌝ }
+    ensures chip { λ r. ⌜ r .chip ≡ after (secondary-chip-call number chip) 𝟎 (λ x. x) ⌝ }
 {
     chip_result(codes::secondary_chip(number, chip))
 }

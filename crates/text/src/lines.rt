@@ -54,8 +54,8 @@ pub fn line_end(s: &[u8], from: usize, to: usize) -> usize {
     to
 }
 
-// Moves s[from..to] to the start of s, and answers how many bytes it moved. From 0 on each byte is stored where it is: a
-// line that comes in pieces is rare, and a test for it would be one more for every line.
+// Moves s[from..to] to the start of s, and answers how many bytes it moved. Where `from` is 0
+// each byte is stored where it is: that is a line which comes in pieces, too rare for a test of its own.
 fn move_down(s: &mut Buffer, from: usize, to: usize) -> usize {
     let mut n: usize = 0;
     for i in from..to {

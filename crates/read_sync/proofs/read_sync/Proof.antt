@@ -15,17 +15,17 @@ use Rattle.codes.proofs.Refused.{numbered, Passed, passed, accepted, not-accept
 use Rattle.codes.proofs.Tests.{neither}
 use Rattle.analyser_parts.specs.Components.{outside}
 use Rattle.analyser_parts.proofs.Ranges.{not-outside}
-use Rattle.read_sync.specs.SyncReading.{candidate, candidates, sync-refusals, winner}
+use Rattle.read_sync.specs.SyncReading.{candidate, candidate-count, read-sync-refusals, winner}
 use Rattle.read_sync.proofs.Leading.{leads-is, leads-none}
 use Rattle.read_sync.proofs.read_sync.Statement.{statement}
 use Rattle.read_sync.proofs.read_sync.Tie as tie
 
 -- the refusals before and after the candidates are compared
 abbrev early : tie.Start → List Refusal
-early c = let s = c .args in take 4 (sync-refusals (s .case) (s .re .now) (s .im .now))
+early c = let s = c .args in take 4 (read-sync-refusals (s .case) (s .re .now) (s .im .now))
 
 abbrev late : tie.Start → List Refusal
-late c = let s = c .args in 19 if eqb (winner (s .case) (value (s .re .now) (s .im .now))) (candidates (s .case)) ∷ []
+late c = let s = c .args in 19 if eqb (winner (s .case) (value (s .re .now) (s .im .now))) (candidate-count (s .case)) ∷ []
 
 refusal-requires : tie.Need-refusal-requires
 refusal-requires c κs = search needs
@@ -61,7 +61,7 @@ returns-2 c =
     let l = c .before .before in
     let s = l .before .before .before in
     let w = leads-is _ _ _ (l .lead .ensures) (c .before .if2 .taken) in
-    let some = ne-eqb (winner (s .args .case) (value (s .args .re .now) (s .args .im .now))) (candidates (s .args .case)) (λ z. absurd (omega (arith, l .lead .ensures .below, sym w ∙ z))) in
+    let some = ne-eqb (winner (s .args .case) (value (s .args .re .now) (s .args .im .now))) (candidate-count (s .args .case)) (λ z. absurd (omega (arith, l .lead .ensures .below, sym w ∙ z))) in
     let none : refusal-number (early s ++ late s) ≡ 0 = passed-early (early s) (late s) (tests (l .before)) ∙ ap (λ (t : Bool). cond t 19 0) some in
     ap gives (c .candidate .ensures ∙ ap (candidate (s .args .case)) (sym w)) ∙ sym (accepted _ (early s ++ late s) tt none)
 
@@ -70,7 +70,7 @@ returns-3 c =
     let l = c .before in
     let s = l .before .before .before in
     let w = leads-none _ _ _ (l .lead .ensures) (c .if2 .left) in
-    let all = eq-eqb (winner (s .args .case) (value (s .args .re .now) (s .args .im .now))) (candidates (s .args .case)) w in
+    let all = eq-eqb (winner (s .args .case) (value (s .args .re .now) (s .args .im .now))) (candidate-count (s .args .case)) w in
     let e : refusal-number (early s ++ late s) ≡ 19 = passed-early (early s) (late s) (tests (l .before)) ∙ ap (λ (t : Bool). cond t 19 0) all in
     ap refused (sym e) ∙ sym (not-accepted _ (early s ++ late s) (λ z. absurd (omega (arith, sym e ∙ z))))
 

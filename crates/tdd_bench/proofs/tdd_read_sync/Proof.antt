@@ -4,19 +4,19 @@ use Prim.Native.Nat.{ℕ}
 use borrow.Author.Needs.{needs}
 use Rattle.codes.proofs.Refused.{held}
 use Rattle.read_sync.specs.declared.Candidate.{Candidate}
-use Rattle.read_sync.specs.SyncReading.{answer-of-sync}
+use Rattle.read_sync.specs.SyncReading.{answer-of-read-sync}
 use Rattle.tdd_bench.proofs.tdd_read_sync.Statement.{statement}
 use Rattle.tdd_bench.proofs.tdd_read_sync.Tie as tie
 
 returns : tie.Need-returns
 returns c =
-    let p = sym (ap answer-of-sync (c .before .answer .given .1)) ∙ c .before .before .before .read-sync .ensures in
+    let p = sym (ap answer-of-read-sync (c .before .answer .given .1)) ∙ c .before .before .before .read-sync .ensures in
     let group = held {B = ℕ} 0 (λ (x : Candidate). x .group .0) p in
     (group .0, (group .1, (held {B = ℕ} 0 (λ (x : Candidate). x .frame) p .1, held {B = ℕ} 0 (λ (x : Candidate). x .half) p .1)))
 
 returns-2 : tie.Need-returns-2
 returns-2 c =
-    let p = sym (ap answer-of-sync (c .before .answer2 .given .1)) ∙ c .before .before .before .read-sync .ensures in
+    let p = sym (ap answer-of-read-sync (c .before .answer2 .given .1)) ∙ c .before .before .before .read-sync .ensures in
     let group = held {B = ℕ} 0 (λ (x : Candidate). x .group .0) p in
     (group .0, (group .1, (held {B = ℕ} 0 (λ (x : Candidate). x .frame) p .1, held {B = ℕ} 0 (λ (x : Candidate). x .half) p .1)))
 

@@ -7,7 +7,7 @@ use borrow.Author.Needs.{needs}
 use borrow.Author.Tests.{eq-eqb, ne-eqb}
 use Rattle.codes.specs.Refusals.{Refusal}
 use Rattle.codes.proofs.Refused.{numbered}
-use Rattle.slot.specs.Tables.{view}
+use Rattle.slot.specs.View.{view}
 use Rattle.bench.specs.BenchCalls.{close-refusals}
 use Rattle.bench.proofs.Accepted.{call-refused, call-accepted, passed-all, good-code}
 use Rattle.bench.proofs.Bench.close.Statement.{statement}

@@ -12,12 +12,12 @@ use lib.ListN.{length, take, drop}
 use lib.Seq.{length-front, length-take-le}
 use Rattle.complex.specs.Buffers.{listed, written, in-buffers}
 use Rattle.slot.specs.Slot.{chip}
-use Rattle.slot.specs.Tables.{view}
+use Rattle.slot.specs.View.{view}
 use Rattle.complex.proofs.Lists.{length-listed}
 use Rattle.codes.specs.Refusals.{Answer, gives, refused, after, refusal-number}
 use Rattle.codes.proofs.Refused.{numbered, passed, accepted, not-accepted}
 use Rattle.bench.specs.declared.Bench.{Bench}
-use Rattle.bench.specs.BenchCalls.{Draw, is-running, draw-refusals, moved-on, draw-call, counted}
+use Rattle.bench.specs.BenchCalls.{AcceptedDraw, is-running, draw-refusals, moved-on, draw-call, draw-outcome}
 use Rattle.bench.proofs.Bench.draw.Statement.{statement}
 use Rattle.bench.proofs.Bench.draw.Tie as tie
 
@@ -28,10 +28,10 @@ written-prefix f n d l e = rw (e, l, length-listed f n)
 
 -- the call's answer, where the tests found a number and where they found none
 module _ (b : Bench) (n m : ℕ) {r : ℕ} (e : r ≡ refusal-number (draw-refusals (is-running b) n m)) where
-  abbrev told : Answer Draw
-  told = draw-call b n m
+  abbrev answer : Answer AcceptedDraw
+  answer = draw-call b n m
 
-  not-drawn : r ≢ 0 → told ≡ refused r
+  not-drawn : r ≢ 0 → answer ≡ refused r
   not-drawn d = not-accepted _ (draw-refusals (is-running b) n m) (λ z. d (e ∙ z)) ∙ ap refused (sym e)
 
   -- where they found none, the lengths are the same
@@ -40,7 +40,7 @@ module _ (b : Bench) (n m : ℕ) {r : ℕ} (e : r ≡ refusal-number (draw-refus
   same-lengths z = eqb-true n m (not-false (eqb n m) (passed (draw-refusals (is-running b) n m) tt (sym e ∙ z) .1 .0))
 
   drawn : (k : ℕ) → k ≡ min n (2560 - b .position) → r ≡ 0
-      → told ≡ gives (record { count = k; chips = in-buffers k (λ i. chip (view (b .sending)) (b .position + i)); bench = moved-on b k })
+      → answer ≡ gives (record { count = k; chips = in-buffers k (λ i. chip (view (b .sending)) (b .position + i)); bench = moved-on b k })
   unfolding numbered
   drawn k q z =
       accepted _ (draw-refusals (is-running b) n m) tt (sym e ∙ z)
@@ -88,7 +88,7 @@ returns c =
     let q : k ≡ min n (2560 - b .position) = w .3 .ensures ∙ ap (min n) (w .2 .ensures) in
     let same : n ≡ m = same-lengths b n m t (w .0 .taken) in
     let e = drawn b n m t k q (w .0 .taken) in (
-      c .draw-answer .ensures ∙ rw (eq-eqb _ _ (w .0 .taken)) (ap gives (w .18) ∙ sym (ap counted e)),
+      c .draw-answer .ensures ∙ rw (eq-eqb _ _ (w .0 .taken)) (ap gives (w .18) ∙ sym (ap draw-outcome e)),
       (
         w .15 ∙ (λ j. record { settings = b .settings; running = w .14 .ensures j; sending = b .sending; position = b .position + k }) ∙ sym (ap (λ a. after a b (λ d. d .bench)) e),
         (
@@ -99,7 +99,7 @@ returns c =
     ))
     (λ w.
     let e = not-drawn b n m t (w .0 .left) in (
-      c .draw-answer .ensures ∙ rw (ne-eqb _ _ (w .0 .left)) (sym (ap counted e)),
+      c .draw-answer .ensures ∙ rw (ne-eqb _ _ (w .0 .left)) (sym (ap draw-outcome e)),
       (
         w .1 ∙ sym (ap (λ a. after a b (λ d. d .bench)) e),
         (w .2 ∙ sym (ap (λ a. after a (s .re .now) (λ d. written (d .chips .re) (s .re .now))) e), w .3 ∙ sym (ap (λ a. after a (s .im .now) (λ d. written (d .chips .im) (s .im .now))) e)),

@@ -9,7 +9,7 @@ use borrow.Author.Tests.{eq-eqb, ne-eqb}
 use lib.ListN.{drop}
 use Rattle.codes.specs.Refusals.{Refusal}
 use Rattle.codes.proofs.Refused.{numbered, Passed}
-use Rattle.slot.specs.Tables.{view}
+use Rattle.slot.specs.View.{view}
 use Rattle.tables.specs.PairChanges.{with-open-cleared}
 use Rattle.tables.proofs.Blocks.{Code}
 use Rattle.tables.proofs.Cleared.{first-open}

@@ -7,7 +7,7 @@ use borrow.Author.Tests.{eq-eqb, ne-eqb}
 use lib.ListN.{drop}
 use Rattle.codes.specs.Refusals.{Refusal}
 use Rattle.codes.proofs.Refused.{numbered}
-use Rattle.slot.specs.Tables.{view}
+use Rattle.slot.specs.View.{view}
 use Rattle.bench.specs.BenchCalls.{set-gain-refusals}
 use Rattle.bench.proofs.Accepted.{call-refused, call-accepted, passed-all, code-and-gain}
 use Rattle.bench.proofs.Bench.set_gain.Statement.{statement}

@@ -5,7 +5,7 @@ use mathlib.Core.List.{List}
 use borrow.Author.Needs.{needs}
 use Rattle.codes.specs.Refusals.{Refusal}
 use Rattle.codes.proofs.Refused.{numbered}
-use Rattle.slot.specs.Tables.{view}
+use Rattle.slot.specs.View.{view}
 use Rattle.codes.proofs.Tests.{neither}
 use Rattle.bench.specs.BenchCalls.{bad-gain, set-sync-refusals}
 use Rattle.bench.proofs.Accepted.{call-refused, call-accepted, passed-all, gain-fits}

@@ -4,13 +4,13 @@ use native.Mathlib.Omega.{arith}
 use borrow.Author.Needs.{needs}
 use lib.Dec.{lit≤}
 use mir.Facts.{fits-below}
-use Rattle.slot.specs.Slot.{burst-type, data-chips}
+use Rattle.slot.specs.Slot.{slot-parts, data-chip-count}
 use Rattle.bench.proofs.refusals.bit_count.Statement.{statement}
 use Rattle.bench.proofs.refusals.bit_count.Tie as tie
 
 -- no type has more data chips than type 2
-at-most : (t : ℕ) → data-chips t ≤ 2208
-unfolding burst-type
+at-most : (t : ℕ) → data-chip-count t ≤ 2208
+unfolding slot-parts
 at-most zero = lit≤ tt
 at-most (suc zero) = lit≤ tt
 at-most (suc (suc zero)) = lit≤ tt

@@ -10,7 +10,7 @@ use Rattle.codes.specs.Refusals.{Refusal, refusal-number}
 use Rattle.codes.proofs.Refused.{numbered}
 use Rattle.slot.specs.Slot.{bit-count}
 use Rattle.slot.specs.declared.Settings.{Settings}
-use Rattle.slot.specs.Tables.{view}
+use Rattle.slot.specs.View.{view}
 use Rattle.bench.specs.BenchCalls.{close-refusals, fresh-settings, load-bits-refusals}
 use Rattle.bench.specs.Changes.{with-gains}
 use Rattle.bench.proofs.Accepted.{passed-all, refused-first, passed-first, good-code}

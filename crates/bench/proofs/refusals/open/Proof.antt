@@ -7,7 +7,7 @@ use lib.ListN.{drop}
 use Rattle.codes.specs.Refusals.{Refusal, refusal-number}
 use Rattle.codes.proofs.Refused.{numbered}
 use Rattle.slot.specs.declared.Settings.{Settings}
-use Rattle.slot.specs.Tables.{view}
+use Rattle.slot.specs.View.{view}
 use Rattle.bench.specs.BenchCalls.{open-refusals}
 use Rattle.bench.specs.CodeRefusals.{code-refusals}
 use Rattle.bench.proofs.Accepted.{refused-first, passed-first}

@@ -6,7 +6,7 @@ use borrow.Author.Needs.{needs}
 use borrow.Author.Tests.{eq-eqb, ne-eqb, not-true, not-false}
 use lib.ListN.{drop}
 use Rattle.codes.specs.Refusals.{Refusal, refusal-number}
-use Rattle.slot.specs.Tables.{view}
+use Rattle.slot.specs.View.{view}
 use Rattle.bench.specs.BenchCalls.{set-sync-refusals}
 use Rattle.bench.proofs.refusals.set_sync.Statement.{statement}
 use Rattle.bench.proofs.refusals.set_sync.Tie as tie

@@ -5,9 +5,9 @@ use mathlib.Core.List.{List}
 use borrow.Author.Needs.{needs}
 use lib.IntN.{ℤ}
 use Rattle.complex.specs.Buffers.{listed}
-use Rattle.modulation.specs.SixteenChips.{summed, scrambled, summed-row}
+use Rattle.modulation.specs.SixteenChips.{summed, scrambled, summed-component}
 use Rattle.modulation.proofs.Blocks.{symbols-bound}
-use Rattle.modulation.proofs.SignPairs.{scrambled-bound}
+use Rattle.modulation.proofs.ScramblingSigns.{scrambled-bound}
 use Rattle.modulation.proofs.data.block.Statement.{statement}
 use Rattle.modulation.proofs.data.block.Tie as tie
 
@@ -25,8 +25,8 @@ returns c =
     let t = c .before .before .before .scrambled .ensures in
     let u = c .scrambled2 .ensures in
     let p = c .before .before .before .before .before .before .before .before .before .before .before .before .pre in
-    let x-is : _ ≡ summed-row (a .gains .now) (a .pairs .now) (a .from) true = x .0 ∙ ap (λ (s : List ℤ). listed 16 (summed (a .gains .now) s)) (c .before .before .before .before .before .before .before .before .before .before .before .symbols .ensures) in
-    let y-is : _ ≡ summed-row (a .gains .now) (a .pairs .now) (a .from) false = y .0 ∙ ap (λ (s : List ℤ). listed 16 (summed (a .gains .now) s)) (c .before .before .before .before .before .before .before .before .before .before .symbols2 .ensures) in (
+    let x-is : _ ≡ summed-component (a .gains .now) (a .pairs .now) (a .from) true = x .0 ∙ ap (λ (s : List ℤ). listed 16 (summed (a .gains .now) s)) (c .before .before .before .before .before .before .before .before .before .before .before .symbols .ensures) in
+    let y-is : _ ≡ summed-component (a .gains .now) (a .pairs .now) (a .from) false = y .0 ∙ ap (λ (s : List ℤ). listed 16 (summed (a .gains .now) s)) (c .before .before .before .before .before .before .before .before .before .before .symbols2 .ensures) in (
       λ j. record { re = (t ∙ ap₂ (λ (y x : List ℤ). listed 16 (scrambled (a .tre .now) y x)) y-is x-is) j; im = (u ∙ ap₂ (λ (x y : List ℤ). listed 16 (scrambled (a .tim .now) x y)) x-is y-is) j },
       (scrambled-bound (p .2) (y .1) (x .1) t, scrambled-bound (p .3) (x .1) (y .1) u),
     )

@@ -1,4 +1,4 @@
--- `with-own` meets its contract: the loop fills the array. Assumes nothing.
+-- `with_own` meets its contract: the loop fills the array. Assumes nothing.
 use mathlib.Core.Path.{_≡_}
 use Prim.Native.Nat.{ℕ, _+_, _-_, _≤_}
 use native.Mathlib.Omega.{arith}

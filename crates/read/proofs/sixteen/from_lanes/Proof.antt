@@ -1,4 +1,4 @@
--- `from-lanes` meets its contract. Assumes nothing.
+-- `from_lanes` meets its contract. Assumes nothing.
 use mathlib.Core.Path.{ap, ap₂, _∙_}
 use borrow.Author.Needs.{needs}
 use lib.IntN.{negℤ}

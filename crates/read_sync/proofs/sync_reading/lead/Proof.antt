@@ -12,7 +12,7 @@ use Rattle.codes.specs.SyncCodes.{b}
 use Rattle.analyser_parts.specs.Correlation.{P}
 use Rattle.analyser_parts.specs.PartSums.{correlated}
 use Rattle.analyser_parts.proofs.Correlations.{primary-is}
-use Rattle.read_sync.specs.SyncReading.{candidates}
+use Rattle.read_sync.specs.SyncReading.{candidate-count}
 use Rattle.read_sync.specs.Shares.{product}
 use Rattle.read_sync.specs.Leaders.{Leads}
 use Rattle.read_sync.proofs.Shares.{P-within, parts-bound, product-within, scores-are}
@@ -88,7 +88,7 @@ returns c =
     let p = primary (corr y) in
     let re = d .products .ensures .0 ∙ (λ j. listed 16 (λ i. product (u j) (v j) (p j) i .re)) in
     let im = d .products .ensures .1 ∙ (λ j. listed 16 (λ i. product (u j) (v j) (p j) i .im)) in
-    subst (λ (f : ℕ → ℤ). Leads f (candidates (a .case)) (c .lead-of-all .result))
+    subst (λ (f : ℕ → ℤ). Leads f (candidate-count (a .case)) (c .lead-of-all .result))
     (λ j n. scores-are (a .re .now) (a .im .now) (d .products .result .re) (d .products .result .im) re im (a .case) n j) (c .lead-of-all .ensures)
 
 pub lead-spec : {M : Type 1} → statement M

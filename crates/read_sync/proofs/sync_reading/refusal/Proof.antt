@@ -6,7 +6,7 @@ use borrow.Author.Tests.{eq-eqb, ne-eqb, not-true, not-false}
 use lib.ListN.{length, take}
 use Rattle.codes.specs.Refusals.{refusal-number}
 use Rattle.codes.specs.Allocation.{one-or-two}
-use Rattle.read_sync.specs.SyncReading.{sync-refusals}
+use Rattle.read_sync.specs.SyncReading.{read-sync-refusals}
 use Rattle.read_sync.proofs.sync_reading.refusal.Statement.{statement}
 use Rattle.read_sync.proofs.sync_reading.refusal.Tie as tie
 
@@ -37,7 +37,7 @@ either-outside-requires : tie.Need-either-outside-requires
 either-outside-requires c κs = search needs
 
 -- every test but the last has passed
-last : (c : tie.After-either-outside) → let s = c .before .before .before .before .before .args in refusal-number (take 4 (sync-refusals (s .case) (s .re .now) (s .im .now))) ≡ cond (c .either-outside .result) 17 0
+last : (c : tie.After-either-outside) → let s = c .before .before .before .before .before .args in refusal-number (take 4 (read-sync-refusals (s .case) (s .re .now) (s .im .now))) ≡ cond (c .either-outside .result) 17 0
 last c =
     let f = c .before in
     let e = f .before in

@@ -13,7 +13,7 @@ use Rattle.modulation.specs.SixteenChips.{block-of}
 use Rattle.modulation.proofs.Blocks.{block-bound, block-cong}
 use Rattle.slot.specs.Setup.{SyncSetup}
 use Rattle.slot.specs.Slot.{sync-chip}
-use Rattle.slot.specs.Tables.{view-sync}
+use Rattle.slot.specs.View.{view-sync}
 use Rattle.slot.proofs.BurstPlace.{cell-start, start-found}
 use Rattle.slot.proofs.BurstBlocks.{viewed, falls-nowhere, falls-there, block-inside, view-both}
 use Rattle.slot.proofs.burst.at.Statement.{statement}

@@ -8,7 +8,7 @@ use borrow.Author.Tests.{le-leb, lt-leb}
 use Prim.Native.Nat.{_+_}
 use lib.Dec.{leb, ltb}
 use Rattle.slot.specs.Setup.{SyncSetup}
-use Rattle.slot.specs.Tables.{view-sync}
+use Rattle.slot.specs.View.{view-sync}
 use Rattle.slot.specs.Slot.{falls-on}
 use Rattle.slot.proofs.BurstPlace.{cell-start, start-found}
 use Rattle.slot.proofs.BurstBlocks.{view-off, view-on}

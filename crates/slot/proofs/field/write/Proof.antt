@@ -8,15 +8,15 @@ use borrow.Author.Needs.{needs}
 use lib.ListN.{length, take, drop}
 use lib.Seq.{length-front, length-take-le}
 use Rattle.complex.proofs.Lists.{length-listed}
-use Rattle.modulation.proofs.SignPairs.{sign-pairs-bound}
+use Rattle.modulation.proofs.ScramblingSigns.{scrambling-signs-bound}
 use Rattle.slot.proofs.Halves.{ordered}
 use Rattle.slot.proofs.Pieces.{length-rest, two-parts}
 use Rattle.slot.proofs.field.write.Statement.{statement}
 use Rattle.slot.proofs.field.write.Tie as tie
 use Rattle.slot.proofs.field.write.Proof.Cut.{lengths, parted, began, cuts, within, end-small, first-data, second-data, in-pairs, at, one, two, in-one, in-two}
 
-sign-pairs-requires : tie.Need-sign-pairs-requires
-sign-pairs-requires c κs = search needs
+scrambling-signs-requires : tie.Need-scrambling-signs-requires
+scrambling-signs-requires c κs = search needs
 
 open-levels-requires : tie.Need-open-levels-requires
 open-levels-requires c κs = search needs
@@ -58,7 +58,7 @@ write-half-requires c κs =
     let b = t .before .before .cut2 .result in
     let re : length (take b (s .re .now)) ≡ b = length-take-le _ _ (within t .0) in
     let im : length (take b (s .im .now)) ≡ b = length-take-le _ _ (within t .1) in
-    let r = sign-pairs-bound _ (c .before .before .before .before .before .before .before .before .before .before .before .before .before .sign-pairs .ensures) in
+    let r = scrambling-signs-bound _ (c .before .before .before .before .before .before .before .before .before .before .before .before .before .scrambling-signs .ensures) in
     (c .before .before .before .before .before .before .before .before .before .before .open-levels .ensures, r .0, r .1, im ∙ sym re, omega (arith, ordered (cuts t), re), refl, refl, omega arith, λ l. omega (arith, first-data t l, in-pairs t))
 
 past-requires : tie.Need-past-requires
@@ -115,7 +115,7 @@ write-half-requires-2 c κs =
     let re = length-rest (s .args .re .now) (w .last .1 .1 .1 .1 .1 .1 .1 .1 .1 .1 .1 .0) b (w .kept .1 .1 .1 .1 .1 .1 .1 .1 .1 .1 .1 .0) in
     let im = length-rest (s .args .im .now) (w .last .1 .1 .1 .1 .1 .1 .1 .1 .1 .1 .1 .1 .0) b (w .kept .1 .1 .1 .1 .1 .1 .1 .1 .1 .1 .1 .1 .0) in
     let n = im ∙ ap (λ (n : ℕ). n - b) (s .pre) ∙ sym re in
-    let r = sign-pairs-bound _ (c .before .before .before .before .before .before .before .before .before .before .before .before .before .before .before .before .before .before .before .before .before .sign-pairs .ensures) in
+    let r = scrambling-signs-bound _ (c .before .before .before .before .before .before .before .before .before .before .before .before .before .before .before .before .before .before .before .before .before .scrambling-signs .ensures) in
     (c .before .before .before .before .before .before .before .before .before .before .before .before .before .before .before .before .before .before .open-levels .ensures, r .0, r .1, n, omega (arith, ordered (cuts t), re), l .first, l .second, omega (arith, l), λ m. omega (arith, second-data t m, in-pairs t, c .before .before .past .ensures))
 
 returns : tie.Need-returns
@@ -140,7 +140,7 @@ pub write-spec : {M : Type 1} → statement M
 write-spec =
     tie.close
     (tie.spec
-    sign-pairs-requires
+    scrambling-signs-requires
     open-levels-requires
     parts-of-requires
     add-second

@@ -7,7 +7,7 @@ use borrow.Author.Tests.{not-true}
 use Rattle.complex.specs.declared.Complex.{Complex}
 use Rattle.modulation.specs.SixteenChips.{block-chip}
 use Rattle.slot.specs.Slot.{sync-chip}
-use Rattle.slot.specs.Tables.{view-sync}
+use Rattle.slot.specs.View.{view-sync}
 use Rattle.slot.proofs.BurstBlocks.{falls-nowhere}
 use Rattle.slot.proofs.FieldBlocks.{whole-chips, part-chips}
 use Rattle.slot.proofs.field.write_block.Statement.{statement}

@@ -13,7 +13,7 @@ use Rattle.complex.specs.Arithmetic.{_⊕_}
 use Rattle.complex.specs.Buffers.{listed, written}
 use Rattle.modulation.specs.SixteenChips.{block-chip}
 use Rattle.slot.specs.Slot.{sync-chip}
-use Rattle.slot.specs.Tables.{view-sync}
+use Rattle.slot.specs.View.{view-sync}
 use Rattle.slot.specs.FieldBlocks.{chip-by-blocks}
 use Rattle.slot.proofs.Pieces.{length-written, part-written, filled}
 use Rattle.slot.proofs.field.write_field.Statement.{statement}

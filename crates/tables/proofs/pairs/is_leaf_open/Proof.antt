@@ -1,10 +1,11 @@
 -- `is_leaf_open` meets its contract. Assumes nothing.
-use mathlib.Core.Path.{_≡_, sym}
+use mathlib.Core.Path.{_≡_}
 use mathlib.Core.Bool.{_||_}
 use Prim.Native.Nat.{_/_}
 use native.Mathlib.Omega.{arith}
 use borrow.Author.Needs.{needs}
-use Rattle.tables.specs.OpenCodes.{open-at, is-leaf-open}
+use Rattle.modulation.specs.Nodes.{open-at}
+use Rattle.tables.specs.OpenCodes.{is-leaf-open}
 use Rattle.tables.proofs.pairs.is_leaf_open.Statement.{statement}
 use Rattle.tables.proofs.pairs.is_leaf_open.Tie as tie
 

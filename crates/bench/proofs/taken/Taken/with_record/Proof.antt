@@ -5,7 +5,7 @@ use borrow.Author.Needs.{needs}
 use lib.ListN.{drop}
 use Rattle.codes.specs.Refusals.{Refusal}
 use Rattle.codes.proofs.Refused.{numbered}
-use Rattle.slot.specs.Tables.{view}
+use Rattle.slot.specs.View.{view}
 use Rattle.bench.specs.BenchCalls.{fresh-settings, open-refusals}
 use Rattle.bench.specs.Changes.{with-gains}
 use Rattle.bench.proofs.Accepted.{code-and-gain, passed-all}

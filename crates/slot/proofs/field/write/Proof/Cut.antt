@@ -10,11 +10,11 @@ use lib.ListN.{length}
 use Rattle.complex.specs.declared.Complex.{Complex}
 use Rattle.complex.specs.Arithmetic.{𝟎}
 use Rattle.modulation.specs.declared.Block.{Block}
-use Rattle.modulation.specs.SixteenChips.{block-of, sign-pair}
+use Rattle.modulation.specs.SixteenChips.{block-of, scrambling-signs}
 use Rattle.slot.specs.declared.Settings.{Settings}
 use Rattle.slot.specs.declared.parts.Parts.{Parts}
-use Rattle.slot.specs.Slot.{data-chips, chip}
-use Rattle.slot.specs.Tables.{settings-of, view}
+use Rattle.slot.specs.Slot.{data-chip-count, chip}
+use Rattle.slot.specs.View.{settings-of, view}
 use Rattle.slot.specs.FieldBlocks.{chip-by-blocks}
 use Rattle.slot.proofs.FieldBlocks.{half-is}
 use Rattle.slot.proofs.Halves.{Cuts, cut-small, ordered, first-inside, second-inside, first-half, second-half}
@@ -28,7 +28,7 @@ entry c = c .before .before .before .before .before
 pub lengths : (c : tie.After-parts-of) → Lengths (c .parts-of .result)
 lengths c = subst Lengths (sym (c .parts-of .ensures)) (lengths-of (entry c .args .kind))
 
-chips-of : (c : tie.After-parts-of) → c .parts-of .result .field1 + c .parts-of .result .field2 ≡ data-chips (entry c .args .kind)
+chips-of : (c : tie.After-parts-of) → c .parts-of .result .field1 + c .parts-of .result .field2 ≡ data-chip-count (entry c .args .kind)
 chips-of c = ap (λ (p : Parts). p .field1 + p .field2) (c .parts-of .ensures)
 
 -- from where the cuts are known back to the call of `parts_of` and to the entry
@@ -58,22 +58,22 @@ end-small c =
     four b h = record { fits = omega arith }
 
 -- the two fields' chips lie among the data chips, and those among the pairs
-pub first-data : (c : tie.After-cut3) → let a = c .before .before .before .cut .result in 0 < a → 0 + began c .args .from + a ≤ data-chips (began c .args .kind)
+pub first-data : (c : tie.After-cut3) → let a = c .before .before .before .cut .result in 0 < a → 0 + began c .args .from + a ≤ data-chip-count (began c .args .kind)
 first-data c l = omega (arith, first-inside (cuts c) l, chips-of (parted c))
 
 pub second-data : (c : tie.After-cut3) → let p = parted c .parts-of .result in let n = c .cut3 .result - c .before .before .cut2 .result in
-    0 < n → p .field1 + (began c .args .from - (p .field1 + p .midamble)) + n ≤ data-chips (began c .args .kind)
+    0 < n → p .field1 + (began c .args .from - (p .field1 + p .midamble)) + n ≤ data-chip-count (began c .args .kind)
 second-data c l = omega (arith, second-inside (cuts c) l, chips-of (parted c))
 
-pub in-pairs : (c : tie.After-cut3) → data-chips (began c .args .kind) ≤ 2208
+pub in-pairs : (c : tie.After-cut3) → data-chip-count (began c .args .kind) ≤ 2208
 in-pairs c = lengths-of (began c .args .kind) .pairs
 
 -- ---- the chips of the slot, and of each half as `write_half` has them
 abbrev settings : tie.After-cut3 → Settings
 settings c = let a = began c .args in settings-of (a .cell) (a .kind) (a .gains .now) (a .pairs .now) (a .sync)
 
-abbrev sign-pairs : tie.After-cut3 → Block
-sign-pairs c = parted c .before .before .before .before .sign-pairs .result
+abbrev made-signs : tie.After-cut3 → Block
+made-signs c = parted c .before .before .before .before .scrambling-signs .result
 
 abbrev pub at : tie.After-cut3 → ℕ → Complex
 at c i = chip (view (settings c)) (began c .args .from + i)
@@ -81,7 +81,7 @@ at c i = chip (view (settings c)) (began c .args .from + i)
 abbrev half : tie.After-cut3 → ℕ → ℕ → ℕ → ℕ → ℕ → Complex
 half c before start q count i =
     let a = began c .args in
-    cond (ltb i count) (chip-by-blocks (a .gains .now) (a .pairs .now) (a .cell .0) (a .sync) (sign-pairs c .re) (sign-pairs c .im) before start (q + i)) 𝟎
+    cond (ltb i count) (chip-by-blocks (a .gains .now) (a .pairs .now) (a .cell .0) (a .sync) (made-signs c .re) (made-signs c .im) before start (q + i)) 𝟎
 
 abbrev pub one : tie.After-cut3 → ℕ → Complex
 one c = half c 0 0 (began c .args .from) (c .before .before .before .cut .result)
@@ -92,9 +92,9 @@ two c =
     let p = parted t .parts-of .result in
     half t (p .field1) (p .field1 + p .midamble) (c .past .result) (t .cut3 .result - t .before .before .cut2 .result)
 
--- the rows are the cell's turns
-rows : (c : tie.After-cut3) → sign-pairs c ≡ block-of (sign-pair (began c .args .cell .0))
-rows c = parted c .before .before .before .before .sign-pairs .ensures
+-- the rows are the cell's scrambling signs
+rows : (c : tie.After-cut3) → made-signs c ≡ block-of (scrambling-signs (began c .args .cell .0))
+rows c = parted c .before .before .before .before .scrambling-signs .ensures
 
 pub in-one : (c : tie.After-cut3) (i : ℕ) → i < c .before .before .cut2 .result → one c i ≡ at c i
 unfolding view

@@ -1,4 +1,4 @@
--- `sign-pairs` meets its contract: the loop fills both arrays. Assumes nothing.
+-- `scrambling_signs` meets its contract: the loop fills both arrays. Assumes nothing.
 use mathlib.Core.Path.{_≡_, sym, subst, ap, _∙_}
 use Prim.Native.Nat.{_+_, _-_}
 use native.Mathlib.Omega.{arith}
@@ -13,14 +13,14 @@ use Rattle.complex.proofs.Sizes.{fits-within}
 use Rattle.codes.specs.PackedSigns.{signed-by-j}
 use Rattle.codes.specs.Scrambling.{v}
 use Rattle.codes.proofs.Rows.{v-within}
-use Rattle.modulation.specs.SixteenChips.{sign-pair}
+use Rattle.modulation.specs.SixteenChips.{scrambling-signs}
 use Rattle.modulation.proofs.Blocks.{Filled, filled-none, filled-all, row-more}
-use Rattle.modulation.proofs.SignPairs.{sign-pair-is}
-use Rattle.modulation.proofs.data.sign_pairs.Statement.{statement}
-use Rattle.modulation.proofs.data.sign_pairs.Tie as tie
+use Rattle.modulation.proofs.ScramblingSigns.{scrambling-signs-are}
+use Rattle.modulation.proofs.data.scrambling_signs.Statement.{statement}
+use Rattle.modulation.proofs.data.scrambling_signs.Tie as tie
 
 abbrev Inv-loop : tie.InvT-loop
-Inv-loop cell re₀ im₀ i₀ re im i = Filled (sign-pair (cell .0)) re im i
+Inv-loop cell re₀ im₀ i₀ re im i = Filled (scrambling-signs (cell .0)) re im i
 
 abbrev μ-loop : tie.MeasureT-loop
 μ-loop cell re₀ im₀ i₀ re im i = 16 - i
@@ -46,13 +46,13 @@ loop-again : tie.Need-loop-again Inv-loop μ-loop
 loop-again c =
     let s = c .before .before in
     let l = s .before .before .loop in
-    let e = sign-pair-is (s .before .before .before .args .cell .0) (l .i) in
+    let e = scrambling-signs-are (s .before .before .before .args .cell .0) (l .i) in
     let re = c .before .signed-by-j .ensures ∙ ap (λ (x : ℤ). signed-by-j x (l .i)) (sign-is s) ∙ sym (ap (λ (z : Complex). z .re) e) in
     let im = c .signed-by-j2 .ensures ∙ ap (λ (x : ℤ). signed-by-j x (l .i + 3)) (sign-is s) ∙ sym (ap (λ (z : Complex). z .im) e) in
     record { res = row-more (l .inv .res) (omega arith) (search needs) re; ims = row-more (l .inv .ims) (omega arith) (search needs) im }
 
-pub sign-pairs-spec : {M : Type 1} → statement M
-sign-pairs-spec =
+pub scrambling-signs-spec : {M : Type 1} → statement M
+scrambling-signs-spec =
     tie.close
     (tie.spec
     Inv-loop

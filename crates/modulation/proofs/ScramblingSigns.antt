@@ -24,7 +24,7 @@ use Rattle.codes.specs.PackedSigns.{signed-by-j}
 use Rattle.codes.specs.Scrambling.{v, scrambling}
 use Rattle.codes.proofs.Rows.{v-within}
 use Rattle.modulation.specs.declared.Block.{Block}
-use Rattle.modulation.specs.SixteenChips.{block-of, sign-pair, scrambled}
+use Rattle.modulation.specs.SixteenChips.{block-of, scrambling-signs, scrambled}
 use Rattle.modulation.proofs.Blocks.{block-bound}
 
 -- a product of four terms, two of which are 0 on the left and one on the right
@@ -67,18 +67,18 @@ module _ (p i : ℕ) where
 module _ (p : ℕ) (x y : List ℤ) (i : ℕ) where
   abbrev by-parity : Bool → Complex
   by-parity even =
-      sign-pair p i .re *ℤ cond even (getD y i (pos 0)) (getD x i (pos 0))
-      +j sign-pair p i .im *ℤ cond even (getD x i (pos 0)) (getD y i (pos 0))
+      scrambling-signs p i .re *ℤ cond even (getD y i (pos 0)) (getD x i (pos 0))
+      +j scrambling-signs p i .im *ℤ cond even (getD x i (pos 0)) (getD y i (pos 0))
 
   pub scrambled-chip : i < 16
-      → scrambled (listed 16 (λ i. sign-pair p i .re)) y x i +j scrambled (listed 16 (λ i. sign-pair p i .im)) x y i ≡ value x y i ⊗ scrambling p (i + 1)
-  scrambled-chip l = rw (listed-at (λ i. sign-pair p i .re) (pos 0) 16 i l, listed-at (λ i. sign-pair p i .im) (pos 0) 16 i l) (pick (ℕ-discrete (i % 2) 0))
+      → scrambled (listed 16 (λ i. scrambling-signs p i .re)) y x i +j scrambled (listed 16 (λ i. scrambling-signs p i .im)) x y i ≡ value x y i ⊗ scrambling p (i + 1)
+  scrambled-chip l = rw (listed-at (λ i. scrambling-signs p i .re) (pos 0) 16 i l, listed-at (λ i. scrambling-signs p i .im) (pos 0) 16 i l) (pick (ℕ-discrete (i % 2) 0))
     where
       pick : Dec (i % 2 ≡ 0) → by-parity (eqb (i % 2) 0) ≡ value x y i ⊗ scrambling p (i + 1)
       pick (yes e) = rw (eq-eqb _ _ e) (imaginary _ _ (w p i) (even-place p i e))
       pick (no e) = rw (ne-eqb _ _ e) (purely-real _ _ (w p i) (odd-place p i (omega arith)))
 
--- ---- the sign pairs by the rows' signs
+-- ---- the scrambling signs by the rows'
 -- (a + b j)(1 + j)
 times-one-plus-j : (a b : ℤ) → (a +j b) ⊗ (pos 1 +j pos 1) ≡ (a -ℤ b) +j (a +ℤ b)
 unfolding _⊗_
@@ -99,23 +99,23 @@ module _ (x : ℤ) where
   by-0 = by-components (simp ring) (simp ring)
 
 -- the real one has the sign of place i, the imaginary one that of place i + 3
-pub sign-pair-is : (p i : ℕ) → sign-pair p i ≡ signed-by-j (v p (i + 1)) i +j signed-by-j (v p (i + 1)) (i + 3)
+pub scrambling-signs-are : (p i : ℕ) → scrambling-signs p i ≡ signed-by-j (v p (i + 1)) i +j signed-by-j (v p (i + 1)) (i + 3)
 unfolding scrambling real signed-by-j
-sign-pair-is p i = go (ℕ-discrete ((i + 1) % 4) 0) (ℕ-discrete ((i + 1) % 4) 1) (ℕ-discrete ((i + 1) % 4) 2)
+scrambling-signs-are p i = go (ℕ-discrete ((i + 1) % 4) 0) (ℕ-discrete ((i + 1) % 4) 1) (ℕ-discrete ((i + 1) % 4) 2)
   where
-    pair-by : {z : Complex} → scrambling p (i + 1) ≡ z → sign-pair p i ≡ z ⊗ (pos 1 +j pos 1)
-    pair-by e = ap (λ (z : Complex). z ⊗ (pos 1 +j pos 1)) e
+    signs-by : {z : Complex} → scrambling p (i + 1) ≡ z → scrambling-signs p i ≡ z ⊗ (pos 1 +j pos 1)
+    signs-by e = ap (λ (z : Complex). z ⊗ (pos 1 +j pos 1)) e
 
-    go : Dec ((i + 1) % 4 ≡ 0) → Dec ((i + 1) % 4 ≡ 1) → Dec ((i + 1) % 4 ≡ 2) → sign-pair p i ≡ signed-by-j (v p (i + 1)) i +j signed-by-j (v p (i + 1)) (i + 3)
-    go (yes e) d f = rw (le-ltb (i % 4) 2 (omega arith), le-ltb ((i + 3) % 4) 2 (omega arith)) (pair-by (rotate-0 (i + 1) (real (v p (i + 1))) e) ∙ times-one-plus-j (v p (i + 1)) (pos 0) ∙ by-0 (v p (i + 1)))
-    go (no d) (yes e) f = rw (lt-ltb (i % 4) 2 (omega arith), le-ltb ((i + 3) % 4) 2 (omega arith)) (pair-by (rotate-1 (i + 1) (real (v p (i + 1))) e) ∙ times-one-plus-j (pos 0) (v p (i + 1)) ∙ by-1 (v p (i + 1)))
-    go (no d) (no f) (yes e) = rw (lt-ltb (i % 4) 2 (omega arith), lt-ltb ((i + 3) % 4) 2 (omega arith)) (pair-by (rotate-2 (i + 1) (real (v p (i + 1))) e) ∙ times-one-plus-j (negℤ (v p (i + 1))) (pos 0) ∙ by-2 (v p (i + 1)))
-    go (no d) (no f) (no g) = rw (le-ltb (i % 4) 2 (omega arith), lt-ltb ((i + 3) % 4) 2 (omega arith)) (pair-by (rotate-3 (i + 1) (real (v p (i + 1))) (omega arith)) ∙ times-one-plus-j (pos 0) (negℤ (v p (i + 1))) ∙ by-3 (v p (i + 1)))
+    go : Dec ((i + 1) % 4 ≡ 0) → Dec ((i + 1) % 4 ≡ 1) → Dec ((i + 1) % 4 ≡ 2) → scrambling-signs p i ≡ signed-by-j (v p (i + 1)) i +j signed-by-j (v p (i + 1)) (i + 3)
+    go (yes e) d f = rw (le-ltb (i % 4) 2 (omega arith), le-ltb ((i + 3) % 4) 2 (omega arith)) (signs-by (rotate-0 (i + 1) (real (v p (i + 1))) e) ∙ times-one-plus-j (v p (i + 1)) (pos 0) ∙ by-0 (v p (i + 1)))
+    go (no d) (yes e) f = rw (lt-ltb (i % 4) 2 (omega arith), le-ltb ((i + 3) % 4) 2 (omega arith)) (signs-by (rotate-1 (i + 1) (real (v p (i + 1))) e) ∙ times-one-plus-j (pos 0) (v p (i + 1)) ∙ by-1 (v p (i + 1)))
+    go (no d) (no f) (yes e) = rw (lt-ltb (i % 4) 2 (omega arith), lt-ltb ((i + 3) % 4) 2 (omega arith)) (signs-by (rotate-2 (i + 1) (real (v p (i + 1))) e) ∙ times-one-plus-j (negℤ (v p (i + 1))) (pos 0) ∙ by-2 (v p (i + 1)))
+    go (no d) (no f) (no g) = rw (le-ltb (i % 4) 2 (omega arith), lt-ltb ((i + 3) % 4) 2 (omega arith)) (signs-by (rotate-3 (i + 1) (real (v p (i + 1))) (omega arith)) ∙ times-one-plus-j (pos 0) (negℤ (v p (i + 1))) ∙ by-3 (v p (i + 1)))
 
--- so a component of a pair is a sign, or 0
-pub sign-pairs-bound : (p : ℕ) {r : Block} → r ≡ block-of (sign-pair p) → Bound 1 (r .re) × Bound 1 (r .im)
+-- so each component is a sign, or 0
+pub scrambling-signs-bound : (p : ℕ) {r : Block} → r ≡ block-of (scrambling-signs p) → Bound 1 (r .re) × Bound 1 (r .im)
 unfolding signed-by-j
-sign-pairs-bound p e = block-bound (sign-pair p) e (λ i. rw (sign-pair-is p i) (record { re = either (ltb (i % 4) 2) i; im = either (ltb ((i + 3) % 4) 2) i }))
+scrambling-signs-bound p e = block-bound (scrambling-signs p) e (λ i. rw (scrambling-signs-are p i) (record { re = either (ltb (i % 4) 2) i; im = either (ltb ((i + 3) % 4) 2) i }))
   where
     either : (b : Bool) (i : ℕ) → Within 1 (cond b (negℤ (v p (i + 1))) (v p (i + 1)))
     either true i = within-neg (v-within p i)

@@ -16,12 +16,12 @@ use Rattle.slot.specs.Slot.{bit-count}
 
 -- Pairs of bits stand block by block of 16 chips, both fields in a row. In a block code (Q, k) owns 16/Q entries from k·16/Q on,
 -- so unrelated codes never overlap: the entry of pair n of code (Q, k)
-abbrev pub place : ℕ → ℕ → ℕ → ℕ
-place Q k n = 16 * (n / width Q) + k * width Q + n % width Q
+abbrev pub entry-of-pair : ℕ → ℕ → ℕ → ℕ
+entry-of-pair Q k n = 16 * (n / width Q) + k * width Q + n % width Q
 
 -- bit i of code (Q, k): an entry is the pair's number, its first bit written first
 abbrev pub held-bit : List ℕ → ℕ → ℕ → ℕ → ℕ
-held-bit pairs Q k i = let n = getD pairs (place Q k (i / 2)) 0 in cond (eqb (i % 2) 0) (n / 2) (n % 2)
+held-bit pairs Q k i = let n = getD pairs (entry-of-pair Q k (i / 2)) 0 in cond (eqb (i % 2) 0) (n / 2) (n % 2)
 
 abbrev pub held-channel : ℕ → List ℕ → Option ChannelSetup
 held-channel zero bits = none
