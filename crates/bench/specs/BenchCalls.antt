@@ -13,7 +13,7 @@ use Rattle.codes.specs.Tree.{among, is-spreading-factor, over-factors, related}
 use Rattle.codes.specs.Allocation.{one-or-two, bad-frame-or-half}
 use Rattle.slot.specs.declared.Settings.{Settings}
 use Rattle.slot.specs.Setup.{Setup, is-open}
-use Rattle.slot.specs.Slot.{slot-length, bit-count, chip}
+use Rattle.slot.specs.Slot.{slot-length, bit-count, slot-chip}
 use Rattle.slot.specs.View.{view}
 use Rattle.tables.specs.Bits.{has-byte-above-1}
 use Rattle.bench.specs.declared.Bench.{Bench}
@@ -68,9 +68,7 @@ abbrev pub open-call : Bench → ℕ → ℕ → ℕ → Answer Bench
 open-call b Q k g =
     open-refusals (view (b .settings)) Q k g otherwise with-settings b (with-bits (with-gain (b .settings) Q k g) Q k [])
 
--- Load plan: a plan comes as a lent list of channel records (Q, k, gain); it replaces all open codes, or changes nothing. Refuses with 3, 4, 5, 6
--- as open would for the first record that fails, taken in order against earlier records only, and that record's place. Places count from 0,
--- bits start as all 0, and an empty list closes everything.
+-- the answer of load plan, whose refusal has a place too
 pub data AnswerAt (A : Type 0) : Type 0 where
   refused-at : (number place : ℕ) → AnswerAt A
   loads : A → AnswerAt A
@@ -81,6 +79,9 @@ opened-in-order place b [] = loads b
 opened-in-order place b (c ∷ cs) =
     elim (open-call b (c .q) (c .k) (c .gain)) [ refused n ↦ refused-at n place | gives next ↦ opened-in-order (suc place) next cs ]
 
+-- Load plan: a plan comes as a lent list of channel records (Q, k, gain); it replaces all open codes, or changes nothing (`plan-left-by`). Refuses with
+-- 3, 4, 5, 6 as open would for the first record that fails, taken in order against earlier records only, and that record's place. Places count from
+-- 0, bits start as all 0, and an empty list closes everything.
 abbrev pub load-plan-call : Bench → List Channel → AnswerAt Bench
 load-plan-call b plan = opened-in-order 0 (with-settings b (all-closed (b .settings))) plan
 
@@ -174,7 +175,7 @@ abbrev pub draw-call : Bench → ℕ → ℕ → Answer AcceptedDraw
 draw-call b n n′ =
     let m = min n (slot-length - b .position) in
     draw-refusals (is-running b) n n′ otherwise
-    (record { count = m; chips = in-buffers m (λ i. chip (view (b .sending)) (b .position + i)); bench = moved-on b m })
+    (record { count = m; chips = in-buffers m (λ i. slot-chip (view (b .sending)) (b .position + i)); bench = moved-on b m })
 
 -- ---- document 01's number and values for each case of the answers
 abbrev pub answer-of-call : CallAnswer → Answer (Unit {0})

@@ -14,7 +14,7 @@ use Rattle.complex.specs.Buffers.{in-buffers, written}
 use Rattle.complex.proofs.Lists.{length-listed}
 use Rattle.codes.specs.Refusals.{Answer, refused, gives, after}
 use Rattle.bench.specs.declared.Bench.{Bench}
-use Rattle.slot.specs.Slot.{chip}
+use Rattle.slot.specs.Slot.{slot-chip}
 use Rattle.slot.specs.View.{view}
 use Rattle.bench.specs.BenchCalls.{AcceptedDraw, draw-outcome, draw-call, moved-on, is-running}
 
@@ -70,7 +70,7 @@ module _ (b : Bench) where
       c = min n (2560 - b .position)
 
       f : ℕ → Complex
-      f i = chip (view (b .sending)) (b .position + i)
+      f i = slot-chip (view (b .sending)) (b .position + i)
 
       d : AcceptedDraw
       d = record { count = c; chips = in-buffers c f; bench = moved-on b c }

@@ -17,7 +17,7 @@ use Rattle.complex.specs.Buffers.{_at_}
 use Rattle.codes.specs.Signs.{minus-if}
 use Rattle.codes.specs.PackedSigns.{packed, sign-bit}
 use Rattle.codes.specs.AnnexA.{annex-A}
-use Rattle.codes.specs.Scrambling.{annex-row, v, scrambling}
+use Rattle.codes.specs.Scrambling.{annex-row, v, scrambling-element}
 use Rattle.codes.specs.Tree.{code}
 use Rattle.codes.specs.Range.{each}
 use Rattle.codes.specs.SyncCodes.{a, a-signs, b, b-signs}
@@ -86,8 +86,8 @@ v-within p i = subst (Within 1) (sym (v-at p i)) (go (decLe 128 p))
     go (yes g) = subst (Within 1) (sym (no-row-at p i g)) (record { size = lit≤ tt })
     go (no g) = row-within (annex-row p) (each-at 128 (λ p. reads-back (annex-row p)) annex-test p (lt-of-not-le g)) i
 
-pub scrambling-both : (p i : ℕ) → Both 1 (scrambling p (i + 1))
-unfolding scrambling
+pub scrambling-both : (p i : ℕ) → Both 1 (scrambling-element p (i + 1))
+unfolding scrambling-element
 scrambling-both p i = both-j^ (real-both (v-within p i)) (i + 1)
 
 -- the codes of Q 16

@@ -17,7 +17,7 @@ use Rattle.codes.specs.declared.ChipAnswer.{ChipAnswer}
 use Rattle.codes.specs.declared.ChipAnswer.the-variants.{Chip, Refused as RefusedChip}
 use Rattle.codes.specs.Refusals.{Answer, refused, gives, _if_, _otherwise_}
 use Rattle.codes.specs.Tree.{is-spreading-factor, element, related}
-use Rattle.codes.specs.Scrambling.{scrambling, code-group}
+use Rattle.codes.specs.Scrambling.{scrambling-element, code-group}
 use Rattle.codes.specs.declared.Allocated.{Allocated}
 use Rattle.codes.specs.declared.AllocationAnswer.{AllocationAnswer}
 use Rattle.codes.specs.declared.AllocationAnswer.the-variants.{Codes, Refused as RefusedAllocation}
@@ -42,7 +42,7 @@ code-group-call p = 1 if leb 128 p ∷ [] otherwise code-group p
 
 -- scrambling chip
 abbrev pub scrambling-chip-call : ℕ → ℕ → Answer Complex
-scrambling-chip-call p chip = 1 if leb 128 p ∷ 16 if leb 16 chip ∷ [] otherwise scrambling p (chip + 1)
+scrambling-chip-call p chip = 1 if leb 128 p ∷ 16 if leb 16 chip ∷ [] otherwise scrambling-element p (chip + 1)
 
 -- primary sync chip
 abbrev pub primary-chip-call : ℕ → Answer Complex

@@ -18,8 +18,8 @@ unfoldable pub v : ℕ → ℕ → ℤ
 v p i = (pos 0 ∷ annex-row p) at i
 
 -- Its complex element i is j^i times vi, i from 1.
-unfoldable pub scrambling : ℕ → ℕ → Complex
-scrambling p i = j^ i ⊗ real (v p i)
+unfoldable pub scrambling-element : ℕ → ℕ → Complex
+scrambling-element p i = j^ i ⊗ real (v p i)
 
 -- The code group of p is p div 4.
 abbrev pub code-group : ℕ → ℕ

@@ -5,7 +5,7 @@ ghost use Rattle.complex.specs.Fits.{Within};
 ghost use Rattle.codes.specs.Range.{numbers-from};
 ghost use Rattle.codes.specs.PackedSigns.{packed, signed-by-j};
 ghost use Rattle.codes.specs.LastArm.{NoneOf};
-ghost use Rattle.codes.specs.Scrambling.{code-group, annex-row, scrambling, v};
+ghost use Rattle.codes.specs.Scrambling.{code-group, annex-row, scrambling-element, v};
 use crate::CellParameter;
 use crate::CodeGroup;
 use crate::signs::sign_at;
@@ -184,7 +184,7 @@ pub fn signed_by_j(s: i32, i: u32) -> i32
 
 // Element i, from 0, of the complex scrambling code; 0 outside its range.
 pub fn element(p: CellParameter, i: u32) -> Complex
-    ensures { λ r. ⌜ r ≡ scrambling (p .0) (i + 1) ⌝ }
+    ensures { λ r. ⌜ r ≡ scrambling-element (p .0) (i + 1) ⌝ }
 {
     let s = sign(p, i);
     Complex { re: s, im: 0 }.rotated(i % 4 + 1)

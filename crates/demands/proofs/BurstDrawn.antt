@@ -14,11 +14,11 @@ use Rattle.codes.specs.Refusals.{gives}
 use Rattle.codes.specs.Scrambling.{code-group}
 use Rattle.codes.specs.Burst.{burst, burst-start}
 use Rattle.slot.specs.Setup.{SyncSetup, Setup}
-use Rattle.slot.specs.Slot.{over-codes, channel-chip, data-chip, sync-chip, chip, slot-parts}
+use Rattle.slot.specs.Slot.{over-codes, channel-chip, data-chip, sync-chip, slot-chip, slot-parts}
 use Rattle.slot.proofs.BurstPlace.{burst-whole, without-sync}
 use Rattle.read_sync.specs.SyncReading.{candidate-for, read-sync-call}
 use Rattle.demands.specs.Slots.{StartedSlot}
-use Rattle.demands.specs.Fields.{ChipsDrawn, chips-from}
+use Rattle.demands.specs.Fields.{AreDrawn, chips-from}
 use Rattle.demands.specs.Valid.{ValidSync, Valid}
 use Rattle.demands.proofs.BurstReadBack.{burst-read-back}
 use Rattle.demands.proofs.History.{Good}
@@ -31,8 +31,8 @@ data-silent s h before q =
     (λ i. over-codes (λ Q k. channel-chip (s .cell) before q Q k (h Q k i)))
     ∙ simp (Σ-𝟎, ⊕-𝟎)
 
-silent : (s : Setup) → ((Q k : ℕ) → s .channel Q k ≡ none) → (x : ℕ) → chip (without-sync s) x ≡ 𝟎
-unfolding chip sync-chip
+silent : (s : Setup) → ((Q k : ℕ) → s .channel Q k ≡ none) → (x : ℕ) → slot-chip (without-sync s) x ≡ 𝟎
+unfolding slot-chip sync-chip
 silent s h x =
     let t = slot-parts (s .type) in
     let second = t .field1 + t .midamble in
@@ -47,7 +47,7 @@ silent s h x =
 
 pub slot-burst : (slot : StartedSlot) → Good slot → (y : SyncSetup)
     → (let s = slot .settings in let g = code-group (s .cell) in let x = burst-start g in
-    s .sync ≡ some y → ((Q k : ℕ) → s .channel Q k ≡ none) → ChipsDrawn slot x 256
+    s .sync ≡ some y → ((Q k : ℕ) → s .channel Q k ≡ none) → AreDrawn slot x 256
     → read-sync-call (y .case) (chips-from slot x 256 .re) (chips-from slot x 256 .im) ≡ gives (candidate-for g (y .frame) (y .half)))
 slot-burst slot good y e nothing drawn =
     ap (λ (b : Values). read-sync-call (y .case) (b .re) (b .im)) (drawn-part slot v (good .in-order) x 256 drawn ∙ in-buffers-cong 256 _ _ chip-is)
@@ -68,5 +68,5 @@ slot-burst slot good y e nothing drawn =
     h : ValidSync (s .type) y
     h = v .sync y e
 
-    chip-is : (n : ℕ) → n < 256 → chip s (x + n) ≡ burst (y .case) g (y .frame) (y .half) (y .gP) (y .gS) n
+    chip-is : (n : ℕ) → n < 256 → slot-chip s (x + n) ≡ burst (y .case) g (y .frame) (y .half) (y .gP) (y .gS) n
     chip-is n l = burst-whole s y (h .type) (v .cell) e n l ∙ ap (λ (z : Complex). z ⊕ burst (y .case) g (y .frame) (y .half) (y .gP) (y .gS) n) (silent s nothing (x + n)) ∙ 𝟎-⊕ _

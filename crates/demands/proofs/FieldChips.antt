@@ -23,7 +23,7 @@ use Rattle.codes.proofs.Factors.{of-all}
 use Rattle.codes.proofs.Allocations.{allocation-known}
 use Rattle.slot.specs.declared.parts.Parts.{Parts}
 use Rattle.slot.specs.Setup.{SyncSetup, Setup}
-use Rattle.slot.specs.Slot.{slot-parts, data-chip, sync-chip, chip}
+use Rattle.slot.specs.Slot.{slot-parts, data-chip, sync-chip, slot-chip}
 use Rattle.orthogonality.proofs.Unrelated.{Unrelated}
 use Rattle.orthogonality.proofs.DataSizes.{data-within}
 use Rattle.demands.specs.Fields.{Field, field-1, field-2, field-length, field-start, chips-before, entries-from}
@@ -67,8 +67,8 @@ field-sync s f q = sync-chip (s .cell) (s .sync) (field-start s f + q)
 
 -- "The slot's chip is the sum over open channels, plus the sync burst where it falls."
 pub chip-in-field : (s : Setup) (f : Field) (q : ℕ) → q < field-length s f
-    → chip s (field-start s f + q) ≡ data-chip s (chips-before s f) q ⊕ field-sync s f q
-unfolding chip
+    → slot-chip s (field-start s f + q) ≡ data-chip s (chips-before s f) q ⊕ field-sync s f q
+unfolding slot-chip
 chip-in-field s field-1 q l = rw (zero-add, lt-ltb q (slot-parts (s .type) .field1) l, zero-add)
 chip-in-field s field-2 q l =
     let t = slot-parts (s .type) in
@@ -111,8 +111,8 @@ field-chip-within s v before q x =
     both-⊕ (data-within s (unrelated s v) (λ Q k c t e. v .channel Q k c e .at-most) before q) (sync-within s v x)
 
 -- every chip of a slot
-pub chip-within : (s : Setup) → Valid s → (x : ℕ) → Both 94185 (chip s x)
-unfolding chip
+pub chip-within : (s : Setup) → Valid s → (x : ℕ) → Both 94185 (slot-chip s x)
+unfolding slot-chip
 chip-within s v x =
     either-within (ltb x (t .field1)) (field-chip-within s v _ _ _)
     (either-within (ltb x second) (nothing-within 94185) (either-within (ltb x (second + t .field2)) (field-chip-within s v _ _ _) (nothing-within 94185)))

@@ -19,15 +19,15 @@ use Rattle.complex.proofs.Ring.{𝟎-⊗}
 use Rattle.complex.proofs.Sizes.{within-more}
 use Rattle.complex.proofs.Sums.{Σ-cong, Σ-𝟎}
 use Rattle.codes.specs.Refusals.{Answer, gives}
-use Rattle.codes.specs.Scrambling.{scrambling}
+use Rattle.codes.specs.Scrambling.{scrambling-element}
 use Rattle.codes.specs.Tree.{is-code, element}
 use Rattle.codes.proofs.Tests.{each-at, T-true}
 use Rattle.slot.specs.Setup.{SyncSetup, Setup}
-use Rattle.slot.specs.Slot.{data-chip, falls-on, sync-chip, chip}
+use Rattle.slot.specs.Slot.{data-chip, burst-falls-on, sync-chip, slot-chip}
 use Rattle.analyser_parts.proofs.Ranges.{none-outside}
 use Rattle.read.specs.Reading.{reading, read-call}
 use Rattle.demands.specs.Slots.{StartedSlot, InOrder}
-use Rattle.demands.specs.Fields.{Field, field-length, field-start, chips-before, entries-from, ChipsDrawn, DrawnWhole, chips-from, drawn-field, reading-count, Suffice, no-burst}
+use Rattle.demands.specs.Fields.{Field, field-length, field-start, chips-before, entries-from, AreDrawn, DrawnWhole, chips-from, drawn-field, reading-count, Suffice, no-burst}
 use Rattle.demands.specs.Valid.{Valid}
 use Rattle.demands.proofs.Readings.{reading-additive}
 use Rattle.demands.proofs.Entries.{code-of}
@@ -41,7 +41,7 @@ in-buffers-cong n f g h = λ i. record { re = listed-cong n (λ j. f j .re) (λ 
 module _ (p Q k : ℕ) where
   reading-cong : (x y : ℕ → Complex) (n : ℕ) → ((i : ℕ) → i < Q → x (n * Q + i) ≡ y (n * Q + i)) → reading p Q k x n ≡ reading p Q k y n
   unfolding reading
-  reading-cong x y n h = Σ-cong Q _ _ (λ i l. ap (λ (z : Complex). z ⊗ conj (scrambling p (1 + (n * Q + i) % 16)) ⊗ real (element Q k i)) (h i l))
+  reading-cong x y n h = Σ-cong Q _ _ (λ i l. ap (λ (z : Complex). z ⊗ conj (scrambling-element p (1 + (n * Q + i) % 16)) ⊗ real (element Q k i)) (h i l))
 
   -- chips that are all 0 read 0
   pub silent-reading : (n : ℕ) → reading p Q k (λ q. 𝟎) n ≡ 𝟎
@@ -79,13 +79,13 @@ module _ (p Q k n : ℕ) (x : ℕ → Complex) (l : p < 128) (c : is-code Q k �
 
 -- ---- a field of a slot whose chips were drawn
 -- where no burst chip falls, the chip is 0
-no-sync-chip : (p : ℕ) (y : Option SyncSetup) (x : ℕ) → falls-on p y x ≡ false → sync-chip p y x ≡ 𝟎
+no-sync-chip : (p : ℕ) (y : Option SyncSetup) (x : ℕ) → burst-falls-on p y x ≡ false → sync-chip p y x ≡ 𝟎
 unfolding sync-chip
 no-sync-chip p none x e = refl
 no-sync-chip p (some y) x e = rw e
 
 pub quiet-chip : (s : Setup) (x n : ℕ) → no-burst s x n ≡ true → (i : ℕ) → i < n → sync-chip (s .cell) (s .sync) (x + i) ≡ 𝟎
-quiet-chip s x n e i l = no-sync-chip (s .cell) (s .sync) (x + i) (not-true _ (T-true _ (each-at n (λ i. not (falls-on (s .cell) (s .sync) (x + i))) (subst T (sym e) tt) i l)))
+quiet-chip s x n e i l = no-sync-chip (s .cell) (s .sync) (x + i) (not-true _ (T-true _ (each-at n (λ i. not (burst-falls-on (s .cell) (s .sync) (x + i))) (subst T (sym e) tt) i l)))
 
 -- what read gives with a start's cell parameter
 abbrev pub read-of : Setup → ℕ → ℕ → Values → Values → Answer Values
@@ -103,26 +103,26 @@ module _ (slot : StartedSlot) (v : Valid (slot .settings)) (o : InOrder slot) wh
   s = slot .settings
 
   -- the drawn chips from chip x to chip x + n - 1
-  pub drawn-part : (x n : ℕ) → ChipsDrawn slot x n → chips-from slot x n ≡ in-buffers n (λ i. chip s (x + i))
+  pub drawn-part : (x n : ℕ) → AreDrawn slot x n → chips-from slot x n ≡ in-buffers n (λ i. slot-chip s (x + i))
   drawn-part x n d =
       let e = o .chips in
       let l : length (slot .chips .re) ≡ o .count = ap (λ (w : Values). length (w .re)) e ∙ length-listed _ (o .count) in
       ap (λ (w : Values). record { re = entries-from x n (w .re); im = entries-from x n (w .im) }) e
       ∙ ap₂ (λ (re im : List ℤ). record { re = re; im = im })
-      (part-listed (pos 0) (λ i. chip s i .re) x n (o .count) (omega (arith, l)))
-      (part-listed (pos 0) (λ i. chip s i .im) x n (o .count) (omega (arith, l)))
+      (part-listed (pos 0) (λ i. slot-chip s i .re) x n (o .count) (omega (arith, l)))
+      (part-listed (pos 0) (λ i. slot-chip s i .im) x n (o .count) (omega (arith, l)))
 
-  pub drawn-chip : (x : ℕ) → x < length (slot .chips .re) → value (slot .chips .re) (slot .chips .im) x ≡ chip s x
+  pub drawn-chip : (x : ℕ) → x < length (slot .chips .re) → value (slot .chips .re) (slot .chips .im) x ≡ slot-chip s x
   drawn-chip x l =
       let e = o .chips in
       ap (λ (w : Values). value (w .re) (w .im) x) e
-      ∙ value-in-buffers (o .count) (chip s) x (omega (arith, ap (λ (w : Values). length (w .re)) e, length-listed (λ i. chip s i .re) (o .count)))
+      ∙ value-in-buffers (o .count) (slot-chip s) x (omega (arith, ap (λ (w : Values). length (w .re)) e, length-listed (λ i. slot-chip s i .re) (o .count)))
 
   module _ (f : Field) (Q k : ℕ) (c : is-code Q k ≡ true) where
     abbrev count : ℕ
     count = reading-count s f Q
 
-    parts : (n : ℕ) → n < count → reading (s .cell) Q k (λ q. chip s (field-start s f + q)) n ≡ of-data s f Q k n ⊕ of-burst s f Q k n
+    parts : (n : ℕ) → n < count → reading (s .cell) Q k (λ q. slot-chip s (field-start s f + q)) n ≡ of-data s f Q k n ⊕ of-burst s f Q k n
     parts n l =
         field-cong (s .cell) Q k (field-length s f) _ (λ q. data-chip s (chips-before s f) q ⊕ field-sync s f q) (chip-in-field s f) n l
         ∙ reading-additive (s .cell) Q k (data-chip s (chips-before s f)) (field-sync s f) n
@@ -132,6 +132,6 @@ module _ (slot : StartedSlot) (v : Valid (slot .settings)) (o : InOrder slot) wh
         → read-of s Q k (drawn-field slot f) out ≡ gives (in-buffers count (λ n. of-data s f Q k n ⊕ of-burst s f Q k n))
     reads d out w =
         ap (λ (field : Values). read-of s Q k field out) (drawn-part (field-start s f) (field-length s f) d)
-        ∙ read-gives (s .cell) Q k (field-length s f) (λ q. chip s (field-start s f + q)) (v .cell) c (readable s (v .type) f)
+        ∙ read-gives (s .cell) Q k (field-length s f) (λ q. slot-chip s (field-start s f + q)) (v .cell) c (readable s (v .type) f)
         (λ q l. chip-within s v _) (length (out .re)) (length (out .im)) (w .re) (w .im)
         ∙ ap gives (in-buffers-cong count _ (λ n. of-data s f Q k n ⊕ of-burst s f Q k n) parts)

@@ -15,7 +15,7 @@ use Rattle.complex.specs.Buffers.{Values, listed, in-buffers}
 use Rattle.complex.proofs.Lists.{length-listed, listed-++}
 use Rattle.codes.specs.Refusals.{Answer, refused, gives, _if_, _otherwise_}
 use Rattle.slot.specs.Setup.{Setup}
-use Rattle.slot.specs.Slot.{slot-length, chip}
+use Rattle.slot.specs.Slot.{slot-length, slot-chip}
 use Rattle.bench.specs.declared.Bench.{Bench}
 use Rattle.bench.specs.BenchCalls.{set-cell-refusals, open-refusals, AnswerAt, refused-at, loads, close-refusals, set-gain-refusals, load-bits-refusals, set-sync-refusals}
 use Rattle.demands.specs.Calls.{Call, set-cell, open-code, load-plan, close, set-gain, load-bits, set-sync, clear-sync, start, draw, refused-by, Step}
@@ -41,7 +41,7 @@ all-at P (List·Memᴰ·tail m) a = all-at P m (a .1)
 -- what the reference model has of the last one: the copy while chips are left, and how many are out
 pub record Last (r : Reference) (x : StartedSlot) : Type 0 where
   pub copy : r .sending ≡ cond (eqb (r .sent) slot-length) none (some (x .settings))
-  pub chips : x .chips ≡ in-buffers (r .sent) (chip (x .settings))
+  pub chips : x .chips ≡ in-buffers (r .sent) (slot-chip (x .settings))
   pub valid : Valid (x .settings)
 
 -- and of all
@@ -91,10 +91,10 @@ same-copy {s} {c} {n} {x} l = go (eqb n slot-length) (l .copy)
 
 -- m chips more are drawn
 more-drawn : (s c : Setup) (n m : ℕ) (x : StartedSlot) (past : List StartedSlot) → Last (model s (some c) n) x → All Good past
-    → Recorded (model s (cond (eqb (n + m) slot-length) none (some c)) (n + m)) (extended (in-buffers m (λ i. chip c (n + i))) (x ∷ past))
+    → Recorded (model s (cond (eqb (n + m) slot-length) none (some c)) (n + m)) (extended (in-buffers m (λ i. slot-chip c (n + i))) (x ∷ past))
 more-drawn s c n m x past l g =
     let e = same-copy l in
-    let f = chip (x .settings) in (
+    let f = slot-chip (x .settings) in (
       record {
         copy = ap (λ (u : Setup). cond (eqb (n + m) slot-length) none (some u)) e;
         chips = rw (l .chips, e) (ap₂ (λ (a b : List ℤ). record { re = a; im = b }) (listed-++ (λ i. f i .re) n m) (listed-++ (λ i. f i .im) n m));
@@ -138,7 +138,7 @@ kept-by b v past h {c} r = subst (Kept past (is-start c)) (ran-steps b v r .same
 -- ---- refusal 11
 -- as many chips are drawn as the tally says
 out : {r : Reference} {x : StartedSlot} → Last r x → length (x .chips .re) ≡ r .sent
-out {r} {x} l = ap (λ (v : Values). length (v .re)) (l .chips) ∙ length-listed (λ i. chip (x .settings) i .re) (r .sent)
+out {r} {x} l = ap (λ (v : Values). length (v .re)) (l .chips) ∙ length-listed (λ i. slot-chip (x .settings) i .re) (r .sent)
 
 -- without a copy all are out
 gone : {s : Setup} {n : ℕ} {x : StartedSlot} → Last (model s none n) x → n ≡ slot-length

@@ -9,9 +9,9 @@ use Rattle.complex.specs.Buffers.{value}
 use Rattle.complex.proofs.Ring.{⊕-𝟎}
 use Rattle.complex.proofs.Sums.{Σℤ-cong}
 use Rattle.slot.specs.Setup.{Setup}
-use Rattle.slot.specs.Slot.{data-chip, sync-chip, chip}
+use Rattle.slot.specs.Slot.{data-chip, sync-chip, slot-chip}
 use Rattle.demands.specs.Slots.{StartedSlot}
-use Rattle.demands.specs.Fields.{Field, field-length, field-start, chips-before, ChipsDrawn, no-burst, power-of-16-chips, power-due}
+use Rattle.demands.specs.Fields.{Field, field-length, field-start, chips-before, AreDrawn, no-burst, power-of-16-chips, power-due}
 use Rattle.demands.specs.Valid.{Valid}
 use Rattle.demands.proofs.History.{Good}
 use Rattle.demands.proofs.FieldChips.{chip-in-field, unrelated}
@@ -20,7 +20,7 @@ use Rattle.orthogonality.proofs.DataPower.{data-power}
 
 -- The 16 chips from chip 16m of a field on, all drawn, no burst chip among them; the field need not be drawn whole.
 pub slot-power : (slot : StartedSlot) → Good slot → (f : Field) (m : ℕ)
-    → (let s = slot .settings in 16 * m + 16 ≤ field-length s f → ChipsDrawn slot (field-start s f + 16 * m) 16
+    → (let s = slot .settings in 16 * m + 16 ≤ field-length s f → AreDrawn slot (field-start s f + 16 * m) 16
     → no-burst s (field-start s f + 16 * m) 16 ≡ true → power-of-16-chips slot (field-start s f + 16 * m) ≡ power-due s)
 slot-power slot g f m inside drawn quiet =
     Σℤ-cong 16 _ _ (λ n l. ap squared-size (chip-is n l))
@@ -37,7 +37,7 @@ slot-power slot g f m inside drawn quiet =
         let x = field-start s f + 16 * m in
         let e : x + n ≡ field-start s f + (m * 16 + n) = omega arith in
         drawn-chip slot v (g .in-order) (x + n) (omega arith)
-        ∙ ap (chip s) e
+        ∙ ap (slot-chip s) e
         ∙ chip-in-field s f (m * 16 + n) (omega arith)
         ∙ ap (λ (z : Complex). data-chip s (chips-before s f) (m * 16 + n) ⊕ z)
         (ap (sync-chip (s .cell) (s .sync)) (sym e) ∙ quiet-chip s x 16 quiet n l)

@@ -9,7 +9,7 @@ use Rattle.complex.proofs.Ring.{products, ⊕-⊗, ⊗-comm, conj-⊗, conj-con
 use Rattle.complex.proofs.Sums.{Σ-cong, Σ-⊕}
 use Rattle.complex.proofs.Components.{both-conj, both-j^, both-sign, both-Σ}
 use Rattle.codes.specs.Tree.{element}
-use Rattle.codes.specs.Scrambling.{v, scrambling}
+use Rattle.codes.specs.Scrambling.{v, scrambling-element}
 use Rattle.codes.proofs.Rows.{v-within}
 use Rattle.codes.proofs.Leaves.{element-within}
 use Rattle.read.specs.Reading.{reading}
@@ -20,11 +20,11 @@ reading-additive p Q k x y n =
     Σ-cong Q _ (λ i. of x i ⊕ of y i) (λ i l. rw (⊕-⊗ (x (n * Q + i)) (y (n * Q + i))) (⊕-⊗ _ _ _)) ∙ Σ-⊕ Q (of x) (of y)
   where
     of : (ℕ → Complex) → ℕ → Complex
-    of x i = x (n * Q + i) ⊗ conj (scrambling p (1 + (n * Q + i) % 16)) ⊗ real (element Q k i)
+    of x i = x (n * Q + i) ⊗ conj (scrambling-element p (1 + (n * Q + i) % 16)) ⊗ real (element Q k i)
 
 -- ---- the size of a reading
-scrambled-within : {m : ℕ} {x : Complex} (p i : ℕ) → Both m x → Both m (x ⊗ conj (scrambling p (1 + i)))
-unfolding scrambling
+scrambled-within : {m : ℕ} {x : Complex} (p i : ℕ) → Both m x → Both m (x ⊗ conj (scrambling-element p (1 + i)))
+unfolding scrambling-element
 scrambled-within {m} {x} p i h =
     subst (Both m) (conjugated (j^ (1 + i)) (real (v p (1 + i))) x)
     (both-conj (both-j^ (both-sign (both-conj h) (subst (λ (k : ℕ). Within 1 (v p k)) (add-comm i 1) (v-within p i))) (1 + i)))
@@ -36,5 +36,5 @@ pub reading-within : (p Q k m : ℕ) (x : ℕ → Complex) (n : ℕ) → ((i : �
 unfolding reading
 reading-within p Q k m x n h =
     both-Σ m Q _
-    (λ i l. subst (Both m) (⊗-comm (real (element Q k i)) (x (n * Q + i) ⊗ conj (scrambling p (1 + (n * Q + i) % 16))))
+    (λ i l. subst (Both m) (⊗-comm (real (element Q k i)) (x (n * Q + i) ⊗ conj (scrambling-element p (1 + (n * Q + i) % 16))))
     (both-sign (scrambled-within p ((n * Q + i) % 16) (h i l)) (element-within Q k i)))

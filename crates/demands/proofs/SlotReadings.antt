@@ -16,7 +16,7 @@ use Rattle.complex.proofs.Sizes.{within-more}
 use Rattle.codes.specs.Refusals.{gives}
 use Rattle.codes.specs.Tree.{is-code, related}
 use Rattle.slot.specs.Setup.{ChannelSetup, Setup, is-some, is-open}
-use Rattle.slot.specs.Slot.{data-chip, sync-chip, chip}
+use Rattle.slot.specs.Slot.{data-chip, sync-chip, slot-chip}
 use Rattle.analyser_parts.specs.Components.{outside}
 use Rattle.analyser_parts.proofs.Ranges.{none-outside}
 use Rattle.orthogonality.proofs.Unrelated.{Free}
@@ -62,7 +62,7 @@ module _ (s : Setup) (v : Valid s) (f : Field) (Q k : ℕ) (c : is-code Q k ≡ 
   pub quiet-reads : read-of s Q k (quiet-field s f) out ≡ gives (in-buffers (reading-count s f Q) (of-data s f Q k))
   unfolding data-chip sync-chip
   quiet-reads =
-      read-gives (s .cell) Q k (field-length s f) (λ q. chip (sync-changed s none) (field-start s f + q)) (v .cell) c (readable s (v .type) f)
+      read-gives (s .cell) Q k (field-length s f) (λ q. slot-chip (sync-changed s none) (field-start s f + q)) (v .cell) c (readable s (v .type) f)
       (λ q l. chip-within (sync-changed s none) (sync-cleared-valid s v) _) (length (out .re)) (length (out .im)) (w .re) (w .im)
       ∙ ap gives (in-buffers-cong (reading-count s f Q) _ _
       (field-cong (s .cell) Q k (field-length s f) _ _ (λ q l. chip-in-field (sync-changed s none) f q l ∙ ⊕-𝟎 (data-chip s (chips-before s f) q))))
@@ -80,8 +80,8 @@ module _ (slot : StartedSlot) (g : Good slot) where
   pub none-too-large : (outside (slot .chips .re) ≡ false) × (outside (slot .chips .im) ≡ false)
   none-too-large =
       let o = g .in-order in (
-        ap (λ (w : Values). outside (w .re)) (o .chips) ∙ none-outside (o .count) (λ x. chip s x .re) (λ x l. within-more (chip-within s (g .valid) x .re) _ (lit≤ tt)),
-        ap (λ (w : Values). outside (w .im)) (o .chips) ∙ none-outside (o .count) (λ x. chip s x .im) (λ x l. within-more (chip-within s (g .valid) x .im) _ (lit≤ tt)),
+        ap (λ (w : Values). outside (w .re)) (o .chips) ∙ none-outside (o .count) (λ x. slot-chip s x .re) (λ x l. within-more (chip-within s (g .valid) x .re) _ (lit≤ tt)),
+        ap (λ (w : Values). outside (w .im)) (o .chips) ∙ none-outside (o .count) (λ x. slot-chip s x .im) (λ x l. within-more (chip-within s (g .valid) x .im) _ (lit≤ tt)),
       )
 
   module _ (f : Field) (whole : DrawnWhole slot f) (Q k : ℕ) (out : Values) (w : Suffice s f Q out) where

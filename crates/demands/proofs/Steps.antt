@@ -18,7 +18,7 @@ use Rattle.codes.proofs.Refused.{Passed}
 use Rattle.modulation.specs.Nodes.{node}
 use Rattle.slot.specs.declared.Settings.{Settings}
 use Rattle.slot.specs.Setup.{Setup, is-some, is-open}
-use Rattle.slot.specs.Slot.{slot-length, bit-count, chip}
+use Rattle.slot.specs.Slot.{slot-length, bit-count, slot-chip}
 use Rattle.slot.specs.View.{view}
 use Rattle.tables.proofs.Blocks.{is-bit}
 use Rattle.bench.specs.declared.Bench.{Bench}
@@ -144,7 +144,7 @@ left-in-buffers m f re im =
 
 -- what a draw of m chips gives
 abbrev draw-of : Bench → ℕ → AcceptedDraw
-draw-of b m = record { count = m; chips = in-buffers m (λ i. chip (view (b .sending)) (b .position + i)); bench = moved-on b m }
+draw-of b m = record { count = m; chips = in-buffers m (λ i. slot-chip (view (b .sending)) (b .position + i)); bench = moved-on b m }
 
 -- ---- one call
 module _ (b : Bench) (v : ValidBench b) where
@@ -207,7 +207,7 @@ module _ (b : Bench) (v : ValidBench b) where
   chips-drawn re im m l e =
       ap₂ (λ (x : Values) (o : Option Setup). record { answer = drew m x; next = record { settings = view (b .settings); sending = o; sent = b .position + m } })
       (ap (λ (o : Option Setup). in-buffers m (λ i. copy-chip o (b .position + i))) copy
-      ∙ left-in-buffers m (λ i. chip (view (b .sending)) (b .position + i)) re im)
+      ∙ left-in-buffers m (λ i. slot-chip (view (b .sending)) (b .position + i)) re im)
       (ap (λ (o : Option Setup). cond (eqb (b .position + m) slot-length) none o) copy
       ∙ copy-goes (b .position + m) (b .running) (view (b .sending)) l e)
     where

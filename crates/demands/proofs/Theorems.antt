@@ -26,7 +26,7 @@ use Rattle.demands.specs.Reference.{Reference, fresh-reference, argument
 use Rattle.demands.specs.Runs.{Ran, RunFrom, ended, _then_, Run, answers-in, left-in}
 use Rattle.demands.specs.AnalyserRuns.{Output, RanReadSync, wrote}
 use Rattle.demands.specs.Slots.{StartedSlot, started-slots, InOrder, NothingLeft}
-use Rattle.demands.specs.Fields.{Field, field-length, field-start, ChipsDrawn, DrawnWhole, chips-from, drawn-field, reading-count, FieldRead, readings, own-readings, unrelated, zero-readings, no-burst, burst-field, quiet-field, added, BurstAdds, power-of-16-chips, power-due, FieldHardened, HardBits, AllHardBits}
+use Rattle.demands.specs.Fields.{Field, field-length, field-start, AreDrawn, DrawnWhole, chips-from, drawn-field, reading-count, FieldRead, readings, own-readings, unrelated, zero-readings, no-burst, burst-field, quiet-field, added, BurstAdds, power-of-16-chips, power-due, FieldHardened, HardBits, AllHardBits}
 use Rattle.demands.specs.Valid.{Valid}
 use Rattle.demands.proofs.Steps.{reference-of, ValidBench, ran-steps}
 use Rattle.demands.proofs.BurstDrawn.{slot-burst}
@@ -102,13 +102,13 @@ module _ (run : Run) where
 
     -- "Where none falls, counted from a field's start, the squared components of each 16 data chips add up to 16 times the sum of the squared gains.": the 16
     -- chips from chip 16m of a field on; the field need not be drawn whole
-    pub power : (f : Field) (m : ℕ) → 16 * m + 16 ≤ field-length s f → ChipsDrawn slot (field-start s f + 16 * m) 16
+    pub power : (f : Field) (m : ℕ) → 16 * m + 16 ≤ field-length s f → AreDrawn slot (field-start s f + 16 * m) 16
         → no-burst s (field-start s f + 16 * m) 16 ≡ true → power-of-16-chips slot (field-start s f + 16 * m) ≡ power-due s
     power = slot-power slot good
 
     -- Demand 2: "a sync burst standing alone, read with its own case, comes back as the group, frame and slot it was made for"
     pub burst-drawn : (y : SyncSetup) → s .sync ≡ some y → ((Q k : ℕ) → s .channel Q k ≡ none)
-        → (let g = code-group (s .cell) in let x = burst-start g in ChipsDrawn slot x 256
+        → (let g = code-group (s .cell) in let x = burst-start g in AreDrawn slot x 256
         → (t : Answer Candidate) → RanReadSync (y .case) (chips-from slot x 256) t → t ≡ gives (candidate-for g (y .frame) (y .half)))
     burst-drawn y e nothing drawn t h = read-sync-meets h ∙ slot-burst slot good y e nothing drawn
 

@@ -13,7 +13,7 @@ use Rattle.codes.specs.Range.{each}
 use Rattle.modulation.specs.Symbols.{pair, symbol}
 use Rattle.slot.specs.declared.parts.Parts.{Parts}
 use Rattle.slot.specs.Setup.{ChannelSetup, Setup}
-use Rattle.slot.specs.Slot.{slot-parts, falls-on, sync-chip, chip}
+use Rattle.slot.specs.Slot.{slot-parts, burst-falls-on, sync-chip, slot-chip}
 use Rattle.bench.specs.BenchCalls.{related-to-open}
 use Rattle.orthogonality.specs.Gains.{squared-gains}
 use Rattle.demands.specs.Reference.{sync-changed}
@@ -54,12 +54,12 @@ entries-from at n l = take n (drop at l)
 
 -- the chips from chip x to chip x + n - 1 of the slot are drawn: they come in order from chip 0 on (`in-order`), so it is enough to count them.
 -- "A stretch of 16 data chips counts once all 16 are drawn"
-abbrev pub ChipsDrawn : StartedSlot → ℕ → ℕ → Type 0
-ChipsDrawn slot x n = x + n ≤ length (slot .chips .re)
+abbrev pub AreDrawn : StartedSlot → ℕ → ℕ → Type 0
+AreDrawn slot x n = x + n ≤ length (slot .chips .re)
 
 -- "A field is drawn whole when all its chips are among them."
 abbrev pub DrawnWhole : StartedSlot → Field → Type 0
-DrawnWhole slot f = let s = slot .settings in ChipsDrawn slot (field-start s f) (field-length s f)
+DrawnWhole slot f = let s = slot .settings in AreDrawn slot (field-start s f) (field-length s f)
 
 -- n chips of the slot from chip x on, and a field, as they were drawn, in two buffers that "hold them in order"
 abbrev pub chips-from : StartedSlot → ℕ → ℕ → Values
@@ -107,7 +107,7 @@ zero-readings s f Q = in-buffers (reading-count s f Q) (λ n. 𝟎)
 -- ---- the sync burst
 -- no burst falls on the n chips of the slot from chip x on
 abbrev pub no-burst : Setup → ℕ → ℕ → Bool
-no-burst s x n = each n (λ i. not (falls-on (s .cell) (s .sync) (x + i)))
+no-burst s x n = each n (λ i. not (burst-falls-on (s .cell) (s .sync) (x + i)))
 
 -- "that field with the burst's chips alone, 0 around them"
 abbrev pub burst-field : Setup → Field → Values
@@ -115,7 +115,7 @@ burst-field s f = in-buffers (field-length s f) (λ q. sync-chip (s .cell) (s .s
 
 -- that field of the same settings without sync
 abbrev pub quiet-field : Setup → Field → Values
-quiet-field s f = in-buffers (field-length s f) (λ q. chip (sync-changed s none) (field-start s f + q))
+quiet-field s f = in-buffers (field-length s f) (λ q. slot-chip (sync-changed s none) (field-start s f + q))
 
 -- two lists of n values, added one by one
 abbrev pub added : ℕ → Values → Values → Values

@@ -9,31 +9,31 @@ use Rattle.complex.specs.declared.Complex.{Complex}
 use Rattle.complex.specs.Arithmetic.{_+j_, real}
 use Rattle.complex.specs.Buffers.{listed}
 use Rattle.codes.specs.Tree.{code, related}
-use Rattle.codes.specs.Scrambling.{scrambling}
+use Rattle.codes.specs.Scrambling.{scrambling-element}
 use Rattle.codes.specs.declared.Allocated.{Allocated}
 use Rattle.codes.specs.SyncCodes.{Cp, C}
 use Rattle.codes.specs.Allocation.{allocation, with-unit}
 use Rattle.codes.specs.Burst.{burst-start}
 use Rattle.slot.specs.Setup.{Setup}
-use Rattle.slot.specs.Slot.{chip}
+use Rattle.slot.specs.Slot.{slot-chip}
 use Rattle.read.specs.Reading.{reading}
 use Rattle.harden.specs.Hardening.{hard-bit}
 use Rattle.demands.specs.Reference.{cell-set, with-channel}
 
 -- the values that an instance speaks of
-pub data Value : Type 0 where
-  elements : List ℤ → Value
-  truths : List Bool → Value
-  complex : List Complex → Value
-  numbers : List ℕ → Value
-  code-units : Allocated → Value
+pub data InstanceValue : Type 0 where
+  elements : List ℤ → InstanceValue
+  truths : List Bool → InstanceValue
+  complex : List Complex → InstanceValue
+  numbers : List ℕ → InstanceValue
+  code-units : Allocated → InstanceValue
 
 pub record Instance : Type 0 where
-  pub computed : List Value
-  pub stated : List Value
+  pub computed : List InstanceValue
+  pub stated : List InstanceValue
 
 infix 30 _is_
-abbrev pub _is_ : List Value → List Value → Instance
+abbrev pub _is_ : List InstanceValue → List InstanceValue → Instance
 v is w = record { computed = v; stated = w }
 
 -- y times j
@@ -56,13 +56,13 @@ abbrev pub two-codes : Setup
 two-codes = and-open (and-open (cell-set 8 1) 2 0 3 (0 ∷ 1 ∷ 0 ∷ 1 ∷ [])) 4 2 5 (1 ∷ 0 ∷ [])
 
 -- the first four chips, and the first n readings of code (Q, k)
-abbrev pub chips-of : Setup → Value
-chips-of s = complex (listed 4 (chip s))
+abbrev pub chips-of : Setup → InstanceValue
+chips-of s = complex (listed 4 (slot-chip s))
 
-abbrev pub readings-of : Setup → ℕ → ℕ → ℕ → Value
-readings-of s Q k n = complex (listed n (reading (s .cell) Q k (chip s)))
+abbrev pub readings-of : Setup → ℕ → ℕ → ℕ → InstanceValue
+readings-of s Q k n = complex (listed n (reading (s .cell) Q k (slot-chip s)))
 
-abbrev pub three-codes : ℕ → Complex → ℕ → Complex → ℕ → Complex → Value
+abbrev pub three-codes : ℕ → Complex → ℕ → Complex → ℕ → Complex → InstanceValue
 three-codes i u j v k w = code-units (record { first = with-unit i u; second = with-unit j v; marker = with-unit k w })
 
 -- the readings 0, 5+5j, -5-5j
@@ -78,7 +78,7 @@ table =
     -- 3. (4, 1) and (16, 5) are related, (4, 1) and (16, 8) not.
     (truths (related 4 1 16 5 ∷ related 4 1 16 8 ∷ []) ∷ [] is truths (true ∷ false ∷ []) ∷ []) ∷
     -- 4. Scrambling code 8 begins j, -1, -j, -1.
-    (complex (map (scrambling 8) (1 ∷ 2 ∷ 3 ∷ 4 ∷ [])) ∷ [] is complex (times-j (pos 1) ∷ real (minus 1) ∷ times-j (minus 1) ∷ real (minus 1) ∷ []) ∷ []) ∷
+    (complex (map (scrambling-element 8) (1 ∷ 2 ∷ 3 ∷ 4 ∷ [])) ∷ [] is complex (times-j (pos 1) ∷ real (minus 1) ∷ times-j (minus 1) ∷ real (minus 1) ∷ []) ∷ []) ∷
     -- 5. Cell 8, (4, 1), gain 3, pair 01: 3j, -3, 3j, 3, reading 12.
     (chips-of one-code ∷ readings-of one-code 4 1 1 ∷ []
     is complex (times-j (pos 3) ∷ real (minus 3) ∷ times-j (pos 3) ∷ real (pos 3) ∷ []) ∷ complex (real (pos 12) ∷ []) ∷ []) ∷

@@ -12,7 +12,7 @@ use Rattle.complex.specs.Arithmetic.{𝟎}
 use Rattle.complex.specs.Buffers.{in-buffers}
 use Rattle.codes.specs.Refusals.{Answer, refused, gives, _otherwise_}
 use Rattle.slot.specs.Setup.{ChannelSetup, SyncSetup, Setup, is-some}
-use Rattle.slot.specs.Slot.{slot-length, bit-count, chip}
+use Rattle.slot.specs.Slot.{slot-length, bit-count, slot-chip}
 use Rattle.bench.specs.declared.Channel.{Channel}
 use Rattle.bench.specs.BenchCalls.{set-cell-refusals, open-refusals, AnswerAt, refused-at, loads, close-refusals, set-gain-refusals, load-bits-refusals, set-sync-refusals, start-refusals, draw-refusals}
 use Rattle.demands.specs.Calls.{Call, set-cell, open-code, load-plan, close, set-gain, load-bits, set-sync, clear-sync, start, draw, BenchAnswer, accepted, refused-by, refused-record, drew, Step}
@@ -102,10 +102,10 @@ start-step r (gives a) = record { answer = accepted; next = record { settings = 
 -- chip x of the copy's slot, numbered from 0; an accepted draw has a copy
 abbrev pub copy-chip : Option Setup → ℕ → Complex
 copy-chip none x = 𝟎
-copy-chip (some s) x = chip s x
+copy-chip (some s) x = slot-chip s x
 
 -- An accepted draw of length n gets as its count m, the smaller of n and 2,560 less the tally, and the chips from tally to tally+m-1 of the copy's
--- slot. The tally grows by m, and at 2,560 the copy goes.
+-- slot. The tally grows by m, and at 2,560 the copy goes. (`reference-step` gives it m.)
 abbrev pub draw-step : Reference → ℕ → Answer (Unit {0}) → Step Reference
 draw-step r m (refused n) = record { answer = refused-by n; next = r }
 draw-step r m (gives a) =

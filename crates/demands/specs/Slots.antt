@@ -9,7 +9,7 @@ use mathlib.Core.Option.{Option, none, some}
 use lib.ListN.{length}
 use Rattle.complex.specs.Buffers.{Values, in-buffers}
 use Rattle.slot.specs.Setup.{Setup}
-use Rattle.slot.specs.Slot.{slot-length, chip}
+use Rattle.slot.specs.Slot.{slot-length, slot-chip}
 use Rattle.demands.specs.Calls.{Call, set-cell, open-code, load-plan, close, set-gain, load-bits, set-sync, clear-sync, start, draw, BenchAnswer, accepted, refused-by, refused-record, drew}
 use Rattle.demands.specs.Reference.{Reference, fresh-reference, reference-step, arguments}
 use Rattle.demands.specs.Runs.{Run, answers-in}
@@ -63,7 +63,7 @@ started-slots run = slots-from fresh-reference [] (run .calls) (answers-in (run 
 pub record InOrder (x : StartedSlot) : Type 0 where
   pub count : ℕ
   pub at-most : count ≤ slot-length
-  pub chips : x .chips ≡ in-buffers count (chip (x .settings))
+  pub chips : x .chips ≡ in-buffers count (slot-chip (x .settings))
 
 -- "no start was accepted yet or all 2,560 chips of the last accepted one are out"
 abbrev pub NothingLeft : List StartedSlot → Type 0

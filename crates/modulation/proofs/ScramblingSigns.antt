@@ -21,7 +21,7 @@ use Rattle.complex.proofs.Rotations.{rotate-0, rotate-1, rotate-2, rotate-3}
 use Rattle.complex.proofs.Bounds.{bound-listed}
 use Rattle.complex.proofs.Sizes.{within-more, within-mul, within-neg}
 use Rattle.codes.specs.PackedSigns.{signed-by-j}
-use Rattle.codes.specs.Scrambling.{v, scrambling}
+use Rattle.codes.specs.Scrambling.{v, scrambling-element}
 use Rattle.codes.proofs.Rows.{v-within}
 use Rattle.modulation.specs.declared.Block.{Block}
 use Rattle.modulation.specs.SixteenChips.{block-of, scrambling-signs, scrambled}
@@ -45,10 +45,10 @@ module _ (x y : ℤ) (w : Complex) where
 -- element i + 1 is vᵢ₊₁ times j or -j for an even i, times 1 or -1 for an odd one
 module _ (p i : ℕ) where
   abbrev w : Complex
-  w = scrambling p (i + 1)
+  w = scrambling-element p (i + 1)
 
   even-place : i % 2 ≡ 0 → w .re ≡ pos 0
-  unfolding scrambling real
+  unfolding scrambling-element real
   even-place e = go (ℕ-discrete ((i + 1) % 4) 1)
     where
       go : Dec ((i + 1) % 4 ≡ 1) → w .re ≡ pos 0
@@ -56,7 +56,7 @@ module _ (p i : ℕ) where
       go (no h) = ap (λ (z : Complex). z .re) (rotate-3 _ _ (omega arith))
 
   odd-place : i % 2 ≡ 1 → w .im ≡ pos 0
-  unfolding scrambling real
+  unfolding scrambling-element real
   odd-place e = go (ℕ-discrete ((i + 1) % 4) 0)
     where
       go : Dec ((i + 1) % 4 ≡ 0) → w .im ≡ pos 0
@@ -71,10 +71,10 @@ module _ (p : ℕ) (x y : List ℤ) (i : ℕ) where
       +j scrambling-signs p i .im *ℤ cond even (getD x i (pos 0)) (getD y i (pos 0))
 
   pub scrambled-chip : i < 16
-      → scrambled (listed 16 (λ i. scrambling-signs p i .re)) y x i +j scrambled (listed 16 (λ i. scrambling-signs p i .im)) x y i ≡ value x y i ⊗ scrambling p (i + 1)
+      → scrambled (listed 16 (λ i. scrambling-signs p i .re)) y x i +j scrambled (listed 16 (λ i. scrambling-signs p i .im)) x y i ≡ value x y i ⊗ scrambling-element p (i + 1)
   scrambled-chip l = rw (listed-at (λ i. scrambling-signs p i .re) (pos 0) 16 i l, listed-at (λ i. scrambling-signs p i .im) (pos 0) 16 i l) (pick (ℕ-discrete (i % 2) 0))
     where
-      pick : Dec (i % 2 ≡ 0) → by-parity (eqb (i % 2) 0) ≡ value x y i ⊗ scrambling p (i + 1)
+      pick : Dec (i % 2 ≡ 0) → by-parity (eqb (i % 2) 0) ≡ value x y i ⊗ scrambling-element p (i + 1)
       pick (yes e) = rw (eq-eqb _ _ e) (imaginary _ _ (w p i) (even-place p i e))
       pick (no e) = rw (ne-eqb _ _ e) (purely-real _ _ (w p i) (odd-place p i (omega arith)))
 
@@ -100,10 +100,10 @@ module _ (x : ℤ) where
 
 -- the real one has the sign of place i, the imaginary one that of place i + 3
 pub scrambling-signs-are : (p i : ℕ) → scrambling-signs p i ≡ signed-by-j (v p (i + 1)) i +j signed-by-j (v p (i + 1)) (i + 3)
-unfolding scrambling real signed-by-j
+unfolding scrambling-element real signed-by-j
 scrambling-signs-are p i = go (ℕ-discrete ((i + 1) % 4) 0) (ℕ-discrete ((i + 1) % 4) 1) (ℕ-discrete ((i + 1) % 4) 2)
   where
-    signs-by : {z : Complex} → scrambling p (i + 1) ≡ z → scrambling-signs p i ≡ z ⊗ (pos 1 +j pos 1)
+    signs-by : {z : Complex} → scrambling-element p (i + 1) ≡ z → scrambling-signs p i ≡ z ⊗ (pos 1 +j pos 1)
     signs-by e = ap (λ (z : Complex). z ⊗ (pos 1 +j pos 1)) e
 
     go : Dec ((i + 1) % 4 ≡ 0) → Dec ((i + 1) % 4 ≡ 1) → Dec ((i + 1) % 4 ≡ 2) → scrambling-signs p i ≡ signed-by-j (v p (i + 1)) i +j signed-by-j (v p (i + 1)) (i + 3)

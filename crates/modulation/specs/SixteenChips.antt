@@ -10,7 +10,7 @@ use Rattle.complex.specs.Arithmetic.{_+j_, real, _⊕_, _⊗_, Σℤ<}
 use Rattle.complex.specs.Buffers.{listed, _at_}
 use Rattle.codes.specs.PackedSigns.{sign-bit, secondary-row}
 use Rattle.codes.specs.Range.{any}
-use Rattle.codes.specs.Scrambling.{scrambling}
+use Rattle.codes.specs.Scrambling.{scrambling-element}
 use Rattle.codes.specs.Tree.{over-factors, element, width}
 use Rattle.codes.specs.declared.ModulatedCode.{ModulatedCode}
 use Rattle.codes.specs.declared.Allocated.{Allocated}
@@ -70,7 +70,7 @@ component z re = cond re (z .re) (z .im)
 -- t y + u x j at even places, t x + u y j at odd ones.
 -- the scrambling signs of chip i, as t + u j: scrambling element i + 1 times 1 + j
 abbrev pub scrambling-signs : ℕ → ℕ → Complex
-scrambling-signs p i = scrambling p (i + 1) ⊗ (pos 1 +j pos 1)
+scrambling-signs p i = scrambling-element p (i + 1) ⊗ (pos 1 +j pos 1)
 
 -- entry i of the signs t times that of `even` or of `odd`, by the place's parity
 abbrev pub scrambled : List ℤ → List ℤ → List ℤ → ℕ → ℤ

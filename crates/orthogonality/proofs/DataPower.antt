@@ -11,7 +11,7 @@ use Rattle.complex.specs.Arithmetic.{real, 𝟏, _⊕_, _⊗_, conj, Σ<, Σℤ
 use Rattle.complex.proofs.Integers.{*ℤ-negℤ}
 use Rattle.complex.proofs.Ring.{real-zero, by-components, products, ⊗-assoc, 𝟎-⊗, ⊗-𝟎, 𝟏-⊗, ⊕-⊗, conj-⊗, conj-real, real-+ℤ, real-*ℤ}
 use Rattle.complex.proofs.Sums.{Σ-cong, Σ-blocks, ⊗-Σ, real-Σ}
-use Rattle.codes.specs.Scrambling.{scrambling}
+use Rattle.codes.specs.Scrambling.{scrambling-element}
 use Rattle.codes.specs.Tree.{is-code, element}
 use Rattle.modulation.specs.Symbols.{pair, symbol}
 use Rattle.slot.specs.Setup.{ChannelSetup, Setup, is-some}
@@ -89,7 +89,7 @@ module _ (s : Setup) (h : s .cell < 128) (u : Unrelated s) (d : EachOpen s Bits)
         ∙ sym (⊗-Σ Q heard (conj (sent-symbol s before Q k n)))
       where
         heard : ℕ → Complex
-        heard i = data-chip s before (n * Q + i) ⊗ conj (scrambling (s .cell) (1 + (n * Q + i) % 16)) ⊗ real (element Q k i)
+        heard i = data-chip s before (n * Q + i) ⊗ conj (scrambling-element (s .cell) (1 + (n * Q + i) % 16)) ⊗ real (element Q k i)
 
     -- a code that is not open sends 0; one that is open reads its own symbol
     own-power : (n : ℕ)

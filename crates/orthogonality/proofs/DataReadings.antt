@@ -12,7 +12,7 @@ use Rattle.complex.specs.Arithmetic.{real, 𝟎, _⊗_, conj}
 use Rattle.complex.proofs.Ring.{products, ⊗-assoc, 𝟎-⊗, ⊗-𝟎}
 use Rattle.complex.proofs.Sums.{Σ-𝟎, Σ-cong}
 use Rattle.codes.specs.Range.{each}
-use Rattle.codes.specs.Scrambling.{scrambling}
+use Rattle.codes.specs.Scrambling.{scrambling-element}
 use Rattle.codes.specs.Tree.{is-code, element, related, at-or-above}
 use Rattle.codes.proofs.Leaves.{each-code}
 use Rattle.codes.proofs.Tests.{T-true}
@@ -57,7 +57,7 @@ reading-over p Q k x n =
     y i Q′ k′ = x Q′ k′ (n * Q + i)
 
     s : ℕ → Complex
-    s i = conj (scrambling p (1 + (n * Q + i) % 16))
+    s i = conj (scrambling-element p (1 + (n * Q + i) % 16))
 
     e : ℕ → Complex
     e i = real (element Q k i)

@@ -13,7 +13,7 @@ use Rattle.complex.specs.Arithmetic.{real, 𝟎, _⊗_, j^, Σ<}
 use Rattle.complex.specs.Fits.{Within, Both}
 use Rattle.complex.proofs.Components.{gained-within, both-more, both-⊕, both-j^, both-sign}
 use Rattle.complex.proofs.Ring.{products}
-use Rattle.codes.specs.Scrambling.{v, scrambling}
+use Rattle.codes.specs.Scrambling.{v, scrambling-element}
 use Rattle.codes.specs.Tree.{is-code, element}
 use Rattle.codes.proofs.Leaves.{element-within}
 use Rattle.codes.proofs.Rows.{v-within}
@@ -49,7 +49,7 @@ gain-of (some c) = c .gain
 
 -- one channel's chip: all but the gain is of size 1
 channel-within : (p before q Q k : ℕ) (o : Option ChannelSetup) → Both (gain-of o) (channel-chip p before q Q k o)
-unfolding channel-chip scrambling
+unfolding channel-chip scrambling-element
 channel-within p before q Q k none = nothing
 channel-within p before q Q k (some c) =
     subst (Both (c .gain)) (arrange (real (pos (c .gain))) (symbol n) (real (element Q k (q % Q))) (j^ (1 + q % 16)) (real (v p (1 + q % 16))))

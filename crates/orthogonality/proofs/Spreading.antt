@@ -12,7 +12,7 @@ use Rattle.complex.proofs.Ring.{products, 𝟏-⊗, ⊗-comm, real-*ℤ}
 use Rattle.complex.proofs.Sums.{Σ-cong, ⊗-Σ, real-Σ}
 use Rattle.complex.specs.Buffers.{_at_}
 use Rattle.codes.specs.Range.{each}
-use Rattle.codes.specs.Scrambling.{scrambling}
+use Rattle.codes.specs.Scrambling.{scrambling-element}
 use Rattle.codes.specs.Tree.{is-code, element, related}
 use Rattle.codes.proofs.Tests.{same, same→eq}
 use Rattle.codes.proofs.Leaves.{each-code}
@@ -24,7 +24,7 @@ use Rattle.orthogonality.proofs.Weights.{weight, no-weight, weightless-
 
 -- chip q of the symbols f, spread by code (Q, k) and scrambled
 unfoldable pub spread : ℕ → ℕ → ℕ → (ℕ → Complex) → ℕ → Complex
-spread p Q k f q = f (q / Q) ⊗ real (element Q k (q % Q)) ⊗ scrambling p (1 + q % 16)
+spread p Q k f q = f (q / Q) ⊗ real (element Q k (q % Q)) ⊗ scrambling-element p (1 + q % 16)
 
 -- the reading takes the scrambling off
 unscrambled : (x a s b : Complex) → IsUnit s → x ⊗ a ⊗ s ⊗ conj s ⊗ b ≡ x ⊗ (a ⊗ b)

@@ -11,7 +11,7 @@ use Rattle.complex.specs.Arithmetic.{real, 𝟎, 𝟏, 𝐣, _⊗_, conj, j^}
 use Rattle.complex.proofs.Ring.{real-zero, products, 𝟏-⊗, ⊗-𝟎, conj-⊗}
 use Rattle.codes.specs.Signs.{minus-if}
 use Rattle.codes.specs.PackedSigns.{packed, sign-bit}
-use Rattle.codes.specs.Scrambling.{annex-row, v, scrambling}
+use Rattle.codes.specs.Scrambling.{annex-row, v, scrambling-element}
 use Rattle.codes.proofs.Rows.{v-at, annex-read-back, no-row-at}
 use Rattle.modulation.specs.Symbols.{symbol}
 
@@ -34,8 +34,8 @@ unfolding real 𝟏 _⊗_ conj
 sign-unit true = refl
 sign-unit false = refl
 
-pub scrambling-unit : (p i : ℕ) → p < 128 → i < 16 → IsUnit (scrambling p (1 + i))
-unfolding scrambling sign-bit
+pub scrambling-unit : (p i : ℕ) → p < 128 → i < 16 → IsUnit (scrambling-element p (1 + i))
+unfolding scrambling-element sign-bit
 scrambling-unit p i h l = product-unit (j^ (1 + i)) (real (v p (1 + i))) (j^-unit (1 + i)) (rw sign (sign-unit minus))
   where
     minus : Bool
@@ -58,6 +58,6 @@ unfolding conj 𝟎
 conj-zero = refl
 
 -- there is no scrambling code for a parameter above 127
-pub no-scrambling : (p i : ℕ) → 128 ≤ p → scrambling p (1 + i) ≡ 𝟎
-unfolding scrambling
+pub no-scrambling : (p i : ℕ) → 128 ≤ p → scrambling-element p (1 + i) ≡ 𝟎
+unfolding scrambling-element
 no-scrambling p i h = rw (add-comm 1 i, v-at p i, no-row-at p i h, real-zero, ⊗-𝟎)

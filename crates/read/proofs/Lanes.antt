@@ -22,7 +22,7 @@ use Rattle.complex.proofs.Rotations.{rotate-0, rotate-1, rotate-2, rotate-3}
 use Rattle.complex.proofs.Sums.{Σ-cong}
 use Rattle.codes.specs.PackedSigns.{signed-by-j}
 use Rattle.codes.specs.Range.{each}
-use Rattle.codes.specs.Scrambling.{v, scrambling, annex-row}
+use Rattle.codes.specs.Scrambling.{v, scrambling-element, annex-row}
 use Rattle.codes.specs.Tree.{element}
 use Rattle.codes.proofs.Rows.{v-at}
 use Rattle.codes.proofs.Tests.{each-at, T-true}
@@ -110,7 +110,7 @@ abbrev pub placed : ℕ → Complex → Complex
 placed i x = cond (eqb (i % 2) 0) (j^ 1 ⊗ x) x
 
 pub multiplier-is : (p k i : ℕ) → i < 16 → multiplier p 16 k i ≡ placed i (real (place-sign p k i))
-unfolding multiplier place-sign signed-by-j scrambling
+unfolding multiplier place-sign signed-by-j scrambling-element
 multiplier-is p k i h = by (i % 4) refl (omega arith)
   where
     same : i % 16 ≡ i
@@ -152,7 +152,7 @@ module _ (p k : ℕ) (chip : ℕ → Complex) (n : ℕ) where
   signed : ℕ → Complex
   signed i = real (place-sign p k i) ⊗ chip (16 * n + i)
 
-  term : (i : ℕ) → i < 16 → chip (n * 16 + i) ⊗ conj (scrambling p (1 + (n * 16 + i) % 16)) ⊗ real (element 16 k i) ≡ placed i (signed i)
+  term : (i : ℕ) → i < 16 → chip (n * 16 + i) ⊗ conj (scrambling-element p (1 + (n * 16 + i) % 16)) ⊗ real (element 16 k i) ≡ placed i (signed i)
   unfolding multiplier signed
   term i l =
       let m : (n * 16 + i) % 16 ≡ i = omega arith in
@@ -160,7 +160,7 @@ module _ (p k : ℕ) (chip : ℕ → Complex) (n : ℕ) where
       let c : i ≡ i % 16 = omega arith in
       let from : n * 16 + i ≡ 16 * n + i = omega arith in
       ⊗-assoc (chip (n * 16 + i)) _ _
-      ∙ (λ j. chip (from j) ⊗ (conj (scrambling p (m′ j)) ⊗ real (element 16 k (c j))))
+      ∙ (λ j. chip (from j) ⊗ (conj (scrambling-element p (m′ j)) ⊗ real (element 16 k (c j))))
       ∙ ap (λ (w : Complex). chip (16 * n + i) ⊗ w) (multiplier-is p k i l)
       ∙ by (eqb (i % 2) 0)
     where

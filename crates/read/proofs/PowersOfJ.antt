@@ -15,7 +15,7 @@ use Rattle.complex.proofs.Lists.{value-in-buffers}
 use Rattle.complex.proofs.Ring.{by-components, 𝟎-⊕}
 use Rattle.complex.proofs.Rotations.{rotate-1}
 use Rattle.codes.specs.Range.{each}
-use Rattle.codes.specs.Scrambling.{scrambling}
+use Rattle.codes.specs.Scrambling.{scrambling-element}
 use Rattle.codes.specs.Tree.{element}
 use Rattle.codes.proofs.Tests.{each-at, same, same→eq}
 use Rattle.read.specs.Multipliers.{multiplier, multiplied-sum, place-sign, is-sign, PowerOfJ, PowersOfJ, imaginary, whole}
@@ -82,7 +82,7 @@ same-multiplier p k i h l =
     let c : k ≡ 0 = omega arith in
     let m : i % 1 ≡ 0 = omega arith in
     let n : i ≡ i % 16 = omega arith in
-    ap (λ (z : ℤ). conj (scrambling p (i + 1)) ⊗ real z)
+    ap (λ (z : ℤ). conj (scrambling-element p (i + 1)) ⊗ real z)
     (ap₂ (λ (a b : ℕ). element 1 a b) c m ∙ same→eq (pos 1) (element 16 0 i) (each-at 16 (λ i. same (pos 1) (element 16 0 i)) ones-test i l) ∙ ap (element 16 0) n)
 
 power-of-j : (i : ℕ) (s : ℤ) → is-sign s ≡ true → PowerOfJ (placed i (real s))

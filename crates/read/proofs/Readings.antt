@@ -13,7 +13,7 @@ use Rattle.complex.proofs.Components.{both-more, both-⊗, both-conj, both-sign
 use Rattle.complex.proofs.Lists.{value-in-buffers}
 use Rattle.complex.proofs.Ring.{⊗-assoc, ⊗-comm}
 use Rattle.complex.proofs.Sums.{Σ-cong}
-use Rattle.codes.specs.Scrambling.{scrambling}
+use Rattle.codes.specs.Scrambling.{scrambling-element}
 use Rattle.codes.specs.Tree.{is-spreading-factor, element}
 use Rattle.codes.proofs.Factors.{of-factors}
 use Rattle.codes.proofs.Leaves.{element-within}
@@ -33,7 +33,7 @@ aligned = of-factors Aligned (λ n i l. omega arith) (λ n i l. omega arith) (λ
 pub multiplier-both : (p Q k i : ℕ) → Both 1 (multiplier p Q k i)
 unfolding multiplier
 multiplier-both p Q k i =
-    subst (Both 1) (⊗-comm (real (element Q k (i % Q))) (conj (scrambling p (i + 1))))
+    subst (Both 1) (⊗-comm (real (element Q k (i % Q))) (conj (scrambling-element p (i + 1))))
     (both-sign (both-conj (scrambling-both p i)) (element-within Q k (i % Q)))
 
 -- a sum of chips with multipliers from such lists
@@ -49,15 +49,15 @@ multiplied-sum-both h g h′ g′ from q l =
 module _ (p Q k : ℕ) (t : is-spreading-factor Q ≡ true) (chip : ℕ → Complex) where
   term : (n i : ℕ) → i < Q
       → chip (n * Q + i) ⊗ value (in-buffers 16 (multiplier p Q k) .re) (in-buffers 16 (multiplier p Q k) .im) ((n * Q + i) % 16)
-      ≡ chip (n * Q + i) ⊗ conj (scrambling p (1 + (n * Q + i) % 16)) ⊗ real (element Q k i)
+      ≡ chip (n * Q + i) ⊗ conj (scrambling-element p (1 + (n * Q + i) % 16)) ⊗ real (element Q k i)
   unfolding multiplier
   term n i l =
       let j = (n * Q + i) % 16 in
       let e : j + 1 ≡ 1 + j = omega arith in
       ap (λ (w : Complex). chip (n * Q + i) ⊗ w)
       (value-in-buffers 16 (multiplier p Q k) j (omega arith)
-      ∙ ap₂ (λ (m m′ : ℕ). conj (scrambling p m) ⊗ real (element Q k m′)) e (aligned Q t n i l))
-      ∙ sym (⊗-assoc (chip (n * Q + i)) (conj (scrambling p (1 + j))) (real (element Q k i)))
+      ∙ ap₂ (λ (m m′ : ℕ). conj (scrambling-element p m) ⊗ real (element Q k m′)) e (aligned Q t n i l))
+      ∙ sym (⊗-assoc (chip (n * Q + i)) (conj (scrambling-element p (1 + j))) (real (element Q k i)))
 
   pub reading-is : (n : ℕ) → multiplied-sum chip (value (in-buffers 16 (multiplier p Q k) .re) (in-buffers 16 (multiplier p Q k) .im)) (n * Q) Q ≡ reading p Q k chip n
   unfolding multiplied-sum reading

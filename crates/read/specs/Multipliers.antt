@@ -10,11 +10,11 @@ use Rattle.complex.specs.Arithmetic.{real, _⊕_, _⊗_, conj, j^, Σ<}
 use Rattle.complex.specs.Buffers.{value, _at_}
 use Rattle.codes.specs.PackedSigns.{signed-by-j}
 use Rattle.codes.specs.Tree.{element}
-use Rattle.codes.specs.Scrambling.{v, scrambling}
+use Rattle.codes.specs.Scrambling.{v, scrambling-element}
 
 -- what chip i of each 16 is multiplied by
 unfoldable pub multiplier : ℕ → ℕ → ℕ → ℕ → Complex
-multiplier p Q k i = conj (scrambling p (i + 1)) ⊗ real (element Q k (i % Q))
+multiplier p Q k i = conj (scrambling-element p (i + 1)) ⊗ real (element Q k (i % Q))
 
 -- the sum of q chips, each with its multiplier
 unfoldable pub multiplied-sum : (ℕ → Complex) → (ℕ → Complex) → ℕ → ℕ → Complex

@@ -9,7 +9,7 @@ use Rattle.complex.specs.declared.Complex.{Complex}
 use Rattle.complex.specs.Arithmetic.{real, _⊗_, conj, Σ<}
 use Rattle.complex.specs.Buffers.{value, Values, in-buffers}
 use Rattle.codes.specs.Tree.{is-spreading-factor, element}
-use Rattle.codes.specs.Scrambling.{scrambling}
+use Rattle.codes.specs.Scrambling.{scrambling-element}
 use Rattle.codes.specs.Refusals.{Answer, refused, gives, Refusal, _if_, _otherwise_}
 use Rattle.analyser_parts.specs.Components.{outside, either-shorter}
 use Rattle.read.specs.declared.ReadAnswer.{ReadAnswer}
@@ -18,7 +18,7 @@ use Rattle.read.specs.declared.ReadAnswer.the-variants.{Read, Refused}
 -- Reading n is the sum over the n-th Q chips of chip × conj(complex scrambling element) × code element.
 -- n counts from 0, and chip q of a field, from 0, has complex scrambling element 1 + (q mod 16).
 unfoldable pub reading : ℕ → ℕ → ℕ → (ℕ → Complex) → ℕ → Complex
-reading p Q k chip n = Σ< Q (λ i. chip (n * Q + i) ⊗ conj (scrambling p (1 + (n * Q + i) % 16)) ⊗ real (element Q k i))
+reading p Q k chip n = Σ< Q (λ i. chip (n * Q + i) ⊗ conj (scrambling-element p (1 + (n * Q + i) % 16)) ⊗ real (element Q k i))
 
 abbrev pub longest-field : ℕ
 longest-field = 1104

@@ -21,7 +21,7 @@ use Rattle.modulation.proofs.Blocks.{block-cong}
 use Rattle.modulation.proofs.BurstParts.{burst-both}
 use Rattle.slot.specs.declared.Sync.{Sync}
 use Rattle.slot.specs.Setup.{SyncSetup}
-use Rattle.slot.specs.Slot.{falls-on, sync-chip}
+use Rattle.slot.specs.Slot.{burst-falls-on, sync-chip}
 use Rattle.slot.specs.View.{view-sync}
 use Rattle.slot.proofs.BurstPlace.{cell-start, sync-inside, sync-outside}
 
@@ -71,7 +71,7 @@ module _ (p : ℕ) (y : SyncSetup) (x : ℕ) (m : x % 16 ≡ 0) where
 
 -- ---- where it falls, by the test
 -- nowhere on the sixteen chips
-pub falls-nowhere : (p : ℕ) (o : Option SyncSetup) (x : ℕ) → x % 16 ≡ 0 → falls-on p o x ≡ false → (i : ℕ) → i < 16 → sync-chip p o (x + i) ≡ 𝟎
+pub falls-nowhere : (p : ℕ) (o : Option SyncSetup) (x : ℕ) → x % 16 ≡ 0 → burst-falls-on p o x ≡ false → (i : ℕ) → i < 16 → sync-chip p o (x + i) ≡ 𝟎
 unfolding sync-chip
 falls-nowhere p none x m e i l = refl
 falls-nowhere p (some y) x m e i l = outside p y x m (either (decLe (cell-start p) x) (decLe (cell-start p + 256) x)) i l
@@ -82,12 +82,12 @@ falls-nowhere p (some y) x m e i l = outside p y x m (either (decLe (cell-start 
     either (yes h) (no g) = absurd (false≢true (sym (rw (le-leb _ _ h, lt-ltb _ _ (lt-of-not-le g)) at e)))
 
 -- on them
-pub falls-there : (p : ℕ) (y : Sync) (x : ℕ) → falls-on p (view-sync p y) x ≡ true
+pub falls-there : (p : ℕ) (y : Sync) (x : ℕ) → burst-falls-on p (view-sync p y) x ≡ true
     → (view-sync p y ≡ some (viewed y)) × (p < 128) × (cell-start p ≤ x) × (x < cell-start p + 256)
 unfolding view-sync
 falls-there p y x e = go (eqb (y .on) 0 || leb 128 p) refl e
   where
-    go : (b : Bool) → (eqb (y .on) 0 || leb 128 p) ≡ b → falls-on p (cond b none (some (viewed y))) x ≡ true
+    go : (b : Bool) → (eqb (y .on) 0 || leb 128 p) ≡ b → burst-falls-on p (cond b none (some (viewed y))) x ≡ true
         → (cond b none (some (viewed y)) ≡ some (viewed y)) × (p < 128) × (cell-start p ≤ x) × (x < cell-start p + 256)
     go true h e = absurd (false≢true e)
     go false h e =

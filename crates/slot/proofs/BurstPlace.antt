@@ -18,7 +18,7 @@ use Rattle.codes.specs.Burst.{burst, burst-start}
 use Rattle.codes.proofs.Tests.{each-at}
 use Rattle.slot.specs.declared.parts.Parts.{Parts}
 use Rattle.slot.specs.Setup.{SyncSetup, Setup}
-use Rattle.slot.specs.Slot.{slot-parts, data-chip, sync-chip, chip}
+use Rattle.slot.specs.Slot.{slot-parts, data-chip, sync-chip, slot-chip}
 
 -- the chip of the slot at which the burst of a cell starts
 abbrev pub cell-start : ℕ → ℕ
@@ -78,8 +78,8 @@ abbrev pub without-sync : Setup → Setup
 without-sync s = record { cell = s .cell; type = s .type; channel = s .channel; sync = none }
 
 -- a chip of a field is that sum plus the burst's chip
-field-chip-is : (s : Setup) (x : ℕ) → InsideField (slot-parts (s .type)) x 1 → chip s x ≡ chip (without-sync s) x ⊕ sync-chip (s .cell) (s .sync) x
-unfolding chip data-chip sync-chip
+field-chip-is : (s : Setup) (x : ℕ) → InsideField (slot-parts (s .type)) x 1 → slot-chip s x ≡ slot-chip (without-sync s) x ⊕ sync-chip (s .cell) (s .sync) x
+unfolding slot-chip data-chip sync-chip
 field-chip-is s x (inl h) =
     let t = slot-parts (s .type) in
     rw (lt-ltb x (t .field1) (omega arith), zero-add, ⊕-𝟎)
@@ -92,12 +92,12 @@ field-chip-is s x (inr h) =
 -- "The slot's chip is the sum over open channels, plus the sync burst where it falls": so of each of the burst's 256 chips
 pub burst-whole : (s : Setup) (y : SyncSetup) → s .type ≡ 1 → s .cell < 128 → s .sync ≡ some y → (n : ℕ) → n < 256
     → let g = code-group (s .cell) in let x = burst-start g + n in
-    chip s x ≡ chip (without-sync s) x ⊕ burst (y .case) g (y .frame) (y .half) (y .gP) (y .gS) n
+    slot-chip s x ≡ slot-chip (without-sync s) x ⊕ burst (y .case) g (y .frame) (y .half) (y .gP) (y .gS) n
 burst-whole s y t c e n h =
     let g = code-group (s .cell) in
     let x = burst-start g + n in
     let f : InsideField (slot-parts (s .type)) x 1 = rw t (one (slot-parts 1) (burst-start g) (burst-inside g (omega arith))) in
-    field-chip-is s x f ∙ ap (λ (z : Complex). chip (without-sync s) x ⊕ z) (ap (λ (o : Option SyncSetup). sync-chip (s .cell) o x) e ∙ sync-inside (s .cell) y n h)
+    field-chip-is s x f ∙ ap (λ (z : Complex). slot-chip (without-sync s) x ⊕ z) (ap (λ (o : Option SyncSetup). sync-chip (s .cell) o x) e ∙ sync-inside (s .cell) y n h)
   where
     one : (t : Parts) (x : ℕ) → InsideField t x 256 → InsideField t (x + n) 1
     one t x (inl a) = inl (omega arith)

@@ -15,7 +15,7 @@ use Rattle.complex.specs.declared.Complex.{Complex}
 use Rattle.complex.specs.Buffers.{listed, value}
 use Rattle.complex.proofs.Lists.{value-in-buffers, listed-at, listed-cong}
 use Rattle.complex.proofs.Ring.{⊕-𝟎}
-use Rattle.codes.specs.Scrambling.{scrambling}
+use Rattle.codes.specs.Scrambling.{scrambling-element}
 use Rattle.modulation.specs.declared.Block.{Block}
 use Rattle.modulation.specs.SixteenChips.{block-of, scrambling-signs, summed-component, block-chip}
 use Rattle.modulation.proofs.ScramblingSigns.{scrambled-chip}
@@ -54,14 +54,14 @@ module _ (s : Settings) (before start q : ℕ) {t u : List ℤ} (t-is : t ≡ li
   first = q - q % 16
 
   scrambled : block-chip (s .gains) (s .pairs) (before + first) t u (q % 16)
-      ≡ summed-chip (s .gains) (symbols-from s (before + first)) (q % 16) ⊗ scrambling (s .cell .0) (q % 16 + 1)
+      ≡ summed-chip (s .gains) (symbols-from s (before + first)) (q % 16) ⊗ scrambling-element (s .cell .0) (q % 16 + 1)
   scrambled =
       let x = summed-component (s .gains) (s .pairs) (before + first) true in
       let y = summed-component (s .gains) (s .pairs) (before + first) false in
       let l : q % 16 < 16 = omega arith in
       ap₂ (λ (t u : List ℤ). block-chip (s .gains) (s .pairs) (before + first) t u (q % 16)) t-is u-is
       ∙ scrambled-chip (s .cell .0) x y (q % 16) l
-      ∙ ap (λ (z : Complex). z ⊗ scrambling (s .cell .0) (q % 16 + 1)) (value-in-buffers 16 (summed-chip (s .gains) (symbols-from s (before + first))) (q % 16) l)
+      ∙ ap (λ (z : Complex). z ⊗ scrambling-element (s .cell .0) (q % 16 + 1)) (value-in-buffers 16 (summed-chip (s .gains) (symbols-from s (before + first))) (q % 16) l)
 
   blocks-are : before % 16 ≡ 0 → before + q < data-chip-count (s .kind) → chip-by-blocks (s .gains) (s .pairs) (s .cell .0) (s .sync) t u before start q ≡ field-chip (view s) before start q
   unfolding view

@@ -10,7 +10,7 @@ use lib.Dec.{ltb}
 use Rattle.complex.specs.Arithmetic.{𝟎}
 use Rattle.slot.specs.declared.parts.Parts.{Parts}
 use Rattle.slot.specs.Setup.{Setup}
-use Rattle.slot.specs.Slot.{slot-parts, field-chip, chip}
+use Rattle.slot.specs.Slot.{slot-parts, field-chip, slot-chip}
 
 -- two tests that hold of the same cases
 same-test : (a b c d : ℕ) → (a < b → c < d) → (b ≤ a → d ≤ c) → ltb a b ≡ ltb c d
@@ -54,14 +54,14 @@ module _ {t : Parts} {from n a b c : ℕ} (h : Cuts t from n a b c) where
 
   module _ (s : Setup) (e : t ≡ slot-parts (s .type)) (i : ℕ) where
     -- a chip by the part that it falls in
-    by-parts : (x : ℕ) → chip s x ≡ cond (ltb x (t .field1)) (field-chip s 0 0 x)
+    by-parts : (x : ℕ) → slot-chip s x ≡ cond (ltb x (t .field1)) (field-chip s 0 0 x)
         (cond (ltb x (t .field1 + t .midamble)) 𝟎
         (cond (ltb x (t .field1 + t .midamble + t .field2)) (field-chip s (t .field1) (t .field1 + t .midamble) (x - (t .field1 + t .midamble))) 𝟎))
-    unfolding chip
+    unfolding slot-chip
     by-parts x = rw e
 
     -- entry i of the first half, and of the second, whose first is chip q of field 2
-    pub first-half : i < b → cond (ltb i a) (field-chip s 0 0 (from + i)) 𝟎 ≡ chip s (from + i)
+    pub first-half : i < b → cond (ltb i a) (field-chip s 0 0 (from + i)) 𝟎 ≡ slot-chip s (from + i)
     first-half l =
         rw (
           by-parts (from + i),
@@ -70,7 +70,7 @@ module _ {t : Parts} {from n a b c : ℕ} (h : Cuts t from n a b c) where
         )
 
     pub second-half : (q : ℕ) → q ≡ from - (t .field1 + t .midamble) → b + i < n
-        → cond (ltb i (c - b)) (field-chip s (t .field1) (t .field1 + t .midamble) (q + i)) 𝟎 ≡ chip s (from + (b + i))
+        → cond (ltb i (c - b)) (field-chip s (t .field1) (t .field1 + t .midamble) (q + i)) 𝟎 ≡ slot-chip s (from + (b + i))
     second-half q g l =
         let x = from + (b + i) in
         let k : q + i ≡ x - (t .field1 + t .midamble) = omega (arith, h .midamble) in

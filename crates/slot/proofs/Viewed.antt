@@ -14,7 +14,7 @@ use Rattle.complex.specs.Buffers.{listed}
 use Rattle.complex.proofs.Lists.{listed-at}
 use Rattle.complex.proofs.Ring.{by-components, ⊗-comm, ⊗-⊕, ⊗-𝟎, 𝟎-⊗, real-⊗}
 use Rattle.complex.proofs.Sums.{Σ-cong, ⊗-Σ, Σ-components}
-use Rattle.codes.specs.Scrambling.{scrambling}
+use Rattle.codes.specs.Scrambling.{scrambling-element}
 use Rattle.codes.specs.Tree.{is-spreading-factor, element, width}
 use Rattle.codes.proofs.Leaves.{leaves-within}
 use Rattle.slot.specs.declared.Settings.{Settings}
@@ -49,7 +49,7 @@ pair-held pairs Q k m n l =
 
 -- a gain of 0 is a channel that is not open
 channel-held : (p before q Q k g : ℕ) (bits : List ℕ) → channel-chip p before q Q k (held-channel g bits)
-    ≡ real (pos g) ⊗ symbol (pair bits (before / Q + q / Q)) ⊗ real (element Q k (q % Q)) ⊗ scrambling p (1 + q % 16)
+    ≡ real (pos g) ⊗ symbol (pair bits (before / Q + q / Q)) ⊗ real (element Q k (q % Q)) ⊗ scrambling-element p (1 + q % 16)
 unfolding channel-chip real 𝟎
 channel-held p before q Q k zero bits = sym (simp 𝟎-⊗)
 channel-held p before q Q k (suc g) bits = refl
@@ -73,7 +73,7 @@ module _ (s : Settings) (before first c : ℕ) (b : before % 16 ≡ 0) (f : firs
   y = symbols-from s (before + first)
 
   abbrev w : Complex
-  w = scrambling (s .cell .0) (c + 1)
+  w = scrambling-element (s .cell .0) (c + 1)
 
   abbrev gain-of : ℕ → ℕ → ℤ
   gain-of Q k = pos (getD (s .gains) (node Q k) 0)
@@ -99,7 +99,7 @@ module _ (s : Settings) (before first c : ℕ) (b : before % 16 ≡ 0) (f : firs
       let u : 1 + (first + c) % 16 ≡ c + 1 = omega arith in
       ap (channel-chip p before (first + c) Q k) held
       ∙ channel-held p before (first + c) Q k g bits
-      ∙ (λ i. real (pos g) ⊗ symbol (symbol-is i) ⊗ real (element Q k (code-place Q (width Q) before first c q e b f l i)) ⊗ scrambling p (u i))
+      ∙ (λ i. real (pos g) ⊗ symbol (symbol-is i) ⊗ real (element Q k (code-place Q (width Q) before first c q e b f l i)) ⊗ scrambling-element p (u i))
       ∙ by-component (pos g) (element Q k (c % Q)) (y j) w
       ∙ sym (λ i. w ⊗ (pos g *ℤ listed-at (λ i. y i .re) (pos 0) 16 j m i *ℤ element Q k (c % Q)
       +j pos g *ℤ listed-at (λ i. y i .im) (pos 0) 16 j m i *ℤ element Q k (c % Q)))
@@ -111,7 +111,7 @@ module _ (s : Settings) (before first c : ℕ) (b : before % 16 ≡ 0) (f : firs
   unfolding level-sum
   level-chip Q t e = Σ-cong Q _ _ (λ k h. code-chip Q k t e h) ∙ sym (⊗-Σ Q _ w) ∙ ap (λ (x : Complex). w ⊗ x) (Σ-components Q _ _)
 
-  pub data-is : data-chip (view s) before (first + c) ≡ summed-chip (s .gains) (symbols-from s (before + first)) c ⊗ scrambling (s .cell .0) (c + 1)
+  pub data-is : data-chip (view s) before (first + c) ≡ summed-chip (s .gains) (symbols-from s (before + first)) c ⊗ scrambling-element (s .cell .0) (c + 1)
   unfolding data-chip view summed 𝟎 _⊕_
   data-is =
       (λ i. 𝟎 ⊕ level-chip 1 refl refl i ⊕ level-chip 2 refl refl i ⊕ level-chip 4 refl refl i ⊕ level-chip 8 refl refl i ⊕ level-chip 16 refl refl i)

@@ -9,7 +9,7 @@ use lib.ListN.{getD}
 use Rattle.complex.specs.declared.Complex.{Complex}
 use Rattle.complex.specs.Arithmetic.{real, 𝟎, _⊕_, _⊗_, Σ<}
 use Rattle.codes.specs.Tree.{over-factors, element}
-use Rattle.codes.specs.Scrambling.{scrambling, code-group}
+use Rattle.codes.specs.Scrambling.{scrambling-element, code-group}
 use Rattle.codes.specs.Burst.{burst, burst-start}
 use Rattle.modulation.specs.Symbols.{pair, symbol}
 use Rattle.slot.specs.declared.parts.Parts.{Parts}
@@ -44,7 +44,7 @@ bit-count t Q = 2 * data-chip-count t / Q
 unfoldable pub channel-chip : ℕ → ℕ → ℕ → ℕ → ℕ → Option ChannelSetup → Complex
 channel-chip p before q Q k none = 𝟎
 channel-chip p before q Q k (some c) =
-    real (pos (c .gain)) ⊗ symbol (pair (c .bits) (before / Q + q / Q)) ⊗ real (element Q k (q % Q)) ⊗ scrambling p (1 + q % 16)
+    real (pos (c .gain)) ⊗ symbol (pair (c .bits) (before / Q + q / Q)) ⊗ real (element Q k (q % Q)) ⊗ scrambling-element p (1 + q % 16)
 
 -- the sum over all codes
 abbrev pub over-codes : (ℕ → ℕ → Complex) → Complex
@@ -55,24 +55,24 @@ unfoldable pub data-chip : Setup → ℕ → ℕ → Complex
 data-chip s before q = over-codes (λ Q k. channel-chip (s .cell) before q Q k (s .channel Q k))
 
 -- the sync burst falls on chip x of the slot: 256 chips, from the burst start of the cell's group on
-abbrev pub falls-on : ℕ → Option SyncSetup → ℕ → Bool
-falls-on p none x = false
-falls-on p (some y) x = let start = burst-start (code-group p) in leb start x && ltb x (start + 256)
+abbrev pub burst-falls-on : ℕ → Option SyncSetup → ℕ → Bool
+burst-falls-on p none x = false
+burst-falls-on p (some y) x = let start = burst-start (code-group p) in leb start x && ltb x (start + 256)
 
 -- what the sync burst, unscrambled, adds to chip x of the slot
 unfoldable pub sync-chip : ℕ → Option SyncSetup → ℕ → Complex
 sync-chip p none x = 𝟎
 sync-chip p (some y) x =
     let g = code-group p in
-    cond (falls-on p (some y) x) (burst (y .case) g (y .frame) (y .half) (y .gP) (y .gS) (x - burst-start g)) 𝟎
+    cond (burst-falls-on p (some y) x) (burst (y .case) g (y .frame) (y .half) (y .gP) (y .gS) (x - burst-start g)) 𝟎
 
 -- chip q of a field that starts at the slot's chip `start`: "the sum over open channels, plus the sync burst where it falls"
 abbrev pub field-chip : Setup → ℕ → ℕ → ℕ → Complex
 field-chip s before start q = data-chip s before q ⊕ sync-chip (s .cell) (s .sync) (start + q)
 
--- The slot's chip, number x, from 0; 0 past its end. Midamble and guard chips are 0; a burst lies whole inside one field (`burst-inside`).
-unfoldable pub chip : Setup → ℕ → Complex
-chip s x =
+-- The slot's chip, number x, from 0; 0 past its end. Midamble and guard chips are 0; in type 1, which alone takes sync, a burst lies whole inside one field (`burst-inside`).
+unfoldable pub slot-chip : Setup → ℕ → Complex
+slot-chip s x =
     let t = slot-parts (s .type) in
     let second = t .field1 + t .midamble in
     cond (ltb x (t .field1)) (field-chip s 0 0 x)

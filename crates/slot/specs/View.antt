@@ -27,7 +27,7 @@ abbrev pub held-channel : ℕ → List ℕ → Option ChannelSetup
 held-channel zero bits = none
 held-channel (suc g) bits = some (record { gain = suc g; bits = bits })
 
--- a parameter above 127 is in none of the groups 0 to 31, so it has no burst
+-- a parameter above 127, which no call sets, is in none of the groups 0 to 31, so it has no burst
 unfoldable pub view-sync : ℕ → Sync → Option SyncSetup
 view-sync p y =
     cond (eqb (y .on) 0 || leb 128 p) none

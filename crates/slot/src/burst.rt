@@ -3,7 +3,7 @@ ghost use mathlib.Core.Path.{_≡_};
 ghost use Prim.Native.Nat.{_+_, _%_};
 ghost use Rattle.complex.specs.Fits.{Bound};
 ghost use Rattle.modulation.specs.SixteenChips.{block-of};
-ghost use Rattle.slot.specs.Slot.{falls-on, sync-chip};
+ghost use Rattle.slot.specs.Slot.{burst-falls-on, sync-chip};
 ghost use Rattle.slot.specs.View.{view-sync};
 use crate::Sync;
 use codes::CellParameter;
@@ -14,7 +14,7 @@ use modulation::burst as parts;
 
 // Whether a cell's burst falls on chip x of the slot.
 pub fn falls(cell: CellParameter, y: Sync, x: usize) -> bool
-    ensures { λ r. ⌜ r ≡ falls-on (cell .0) (view-sync (cell .0) y) x ⌝ }
+    ensures { λ r. ⌜ r ≡ burst-falls-on (cell .0) (view-sync (cell .0) y) x ⌝ }
 {
     if y.on == 0 {
         return false;

@@ -11,7 +11,7 @@ use lib.IntN.{ℤ}
 use lib.ListN.{length, take, drop}
 use lib.Seq.{length-front, length-take-le}
 use Rattle.complex.specs.Buffers.{listed, written, in-buffers}
-use Rattle.slot.specs.Slot.{chip}
+use Rattle.slot.specs.Slot.{slot-chip}
 use Rattle.slot.specs.View.{view}
 use Rattle.complex.proofs.Lists.{length-listed}
 use Rattle.codes.specs.Refusals.{Answer, gives, refused, after, refusal-number}
@@ -40,11 +40,11 @@ module _ (b : Bench) (n m : ℕ) {r : ℕ} (e : r ≡ refusal-number (draw-refus
   same-lengths z = eqb-true n m (not-false (eqb n m) (passed (draw-refusals (is-running b) n m) tt (sym e ∙ z) .1 .0))
 
   drawn : (k : ℕ) → k ≡ min n (2560 - b .position) → r ≡ 0
-      → answer ≡ gives (record { count = k; chips = in-buffers k (λ i. chip (view (b .sending)) (b .position + i)); bench = moved-on b k })
+      → answer ≡ gives (record { count = k; chips = in-buffers k (λ i. slot-chip (view (b .sending)) (b .position + i)); bench = moved-on b k })
   unfolding numbered
   drawn k q z =
       accepted _ (draw-refusals (is-running b) n m) tt (sym e ∙ z)
-      ∙ ap (λ (k : ℕ). gives (record { count = k; chips = in-buffers k (λ i. chip (view (b .sending)) (b .position + i)); bench = moved-on b k })) (sym q)
+      ∙ ap (λ (k : ℕ). gives (record { count = k; chips = in-buffers k (λ i. slot-chip (view (b .sending)) (b .position + i)); bench = moved-on b k })) (sym q)
 
 -- how many chips are written
 count : (c : tie.After-smaller) → let s = c .before .before .before .before .before .args in c .smaller .result ≡ min (length (s .re .now)) (2560 - s .self .position)

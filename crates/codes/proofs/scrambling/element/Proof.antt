@@ -12,7 +12,7 @@ use Rattle.complex.specs.Arithmetic.{real, j^, _⊗_}
 use Rattle.complex.specs.Fits.{Within}
 use Rattle.complex.proofs.Rotations.{j^-%}
 use Rattle.complex.proofs.Sizes.{within-neg, fits-within}
-use Rattle.codes.specs.Scrambling.{scrambling, v}
+use Rattle.codes.specs.Scrambling.{scrambling-element, v}
 use Rattle.codes.proofs.Rows.{v-within}
 use Rattle.codes.proofs.scrambling.element.Statement.{statement}
 use Rattle.codes.proofs.scrambling.element.Tie as tie
@@ -39,7 +39,7 @@ power i =
     sym (j^-% (i % 4 + 1)) ∙ ap j^ e ∙ j^-% (i + 1)
 
 returns : tie.Need-returns
-unfolding scrambling real
+unfolding scrambling-element real
 returns c =
     c .rotated .ensures
     ∙ ap₂ (λ u (s : ℤ). u ⊗ real s) (power (c .before .before .args .i)) (sign-is (c .before))

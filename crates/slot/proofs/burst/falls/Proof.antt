@@ -9,17 +9,17 @@ use Prim.Native.Nat.{_+_}
 use lib.Dec.{leb, ltb}
 use Rattle.slot.specs.Setup.{SyncSetup}
 use Rattle.slot.specs.View.{view-sync}
-use Rattle.slot.specs.Slot.{falls-on}
+use Rattle.slot.specs.Slot.{burst-falls-on}
 use Rattle.slot.proofs.BurstPlace.{cell-start, start-found}
 use Rattle.slot.proofs.BurstBlocks.{view-off, view-on}
 use Rattle.slot.proofs.burst.falls.Statement.{statement}
 use Rattle.slot.proofs.burst.falls.Tie as tie
 
 returns : tie.Need-returns
-returns c = let s = c .before .before .args in sym (ap (λ (o : Option SyncSetup). falls-on (s .cell .0) o (s .x)) (view-off _ _ (inl (c .if1 .taken))))
+returns c = let s = c .before .before .args in sym (ap (λ (o : Option SyncSetup). burst-falls-on (s .cell .0) o (s .x)) (view-off _ _ (inl (c .if1 .taken))))
 
 returns-2 : tie.Need-returns-2
-returns-2 c = let s = c .before .before .before .before .args in sym (ap (λ (o : Option SyncSetup). falls-on (s .cell .0) o (s .x)) (view-off _ _ (inr (c .if2 .taken))))
+returns-2 c = let s = c .before .before .before .before .args in sym (ap (λ (o : Option SyncSetup). burst-falls-on (s .cell .0) o (s .x)) (view-off _ _ (inr (c .if2 .taken))))
 
 -- the burst's start, and the test for a burst
 module _ (c : tie.After-start-of) where
@@ -29,10 +29,10 @@ module _ (c : tie.After-start-of) where
   start-is : c .start-of .result ≡ cell-start (began .args .cell .0)
   start-is = start-found _ _ (c .before .before .if2 .left) (c .before .group-of .ensures) (c .start-of .ensures)
 
-  tested : falls-on (began .args .cell .0) (view-sync (began .args .cell .0) (began .args .y)) (began .args .x)
+  tested : burst-falls-on (began .args .cell .0) (view-sync (began .args .cell .0) (began .args .y)) (began .args .x)
       ≡ (leb (c .start-of .result) (began .args .x) && ltb (began .args .x) (c .start-of .result + 256))
   tested =
-      ap (λ (o : Option SyncSetup). falls-on (began .args .cell .0) o (began .args .x)) (view-on _ _ (c .before .before .before .before .if1 .left) (c .before .before .if2 .left))
+      ap (λ (o : Option SyncSetup). burst-falls-on (began .args .cell .0) o (began .args .x)) (view-on _ _ (c .before .before .before .before .if1 .left) (c .before .before .if2 .left))
       ∙ (λ j. leb (sym start-is j) (began .args .x) && ltb (began .args .x) (sym start-is j + 256))
 
 returns-3 : tie.Need-returns-3

@@ -13,7 +13,7 @@ use Rattle.modulation.specs.declared.Block.{Block}
 use Rattle.modulation.specs.SixteenChips.{block-of, scrambling-signs}
 use Rattle.slot.specs.declared.Settings.{Settings}
 use Rattle.slot.specs.declared.parts.Parts.{Parts}
-use Rattle.slot.specs.Slot.{data-chip-count, chip}
+use Rattle.slot.specs.Slot.{data-chip-count, slot-chip}
 use Rattle.slot.specs.View.{settings-of, view}
 use Rattle.slot.specs.FieldBlocks.{chip-by-blocks}
 use Rattle.slot.proofs.FieldBlocks.{half-is}
@@ -76,7 +76,7 @@ abbrev made-signs : tie.After-cut3 → Block
 made-signs c = parted c .before .before .before .before .scrambling-signs .result
 
 abbrev pub at : tie.After-cut3 → ℕ → Complex
-at c i = chip (view (settings c)) (began c .args .from + i)
+at c i = slot-chip (view (settings c)) (began c .args .from + i)
 
 abbrev half : tie.After-cut3 → ℕ → ℕ → ℕ → ℕ → ℕ → Complex
 half c before start q count i =
