@@ -17,7 +17,7 @@ use Rattle.slot.specs.Setup.{SyncSetup, Setup}
 use Rattle.slot.specs.Slot.{over-codes, channel-chip, data-chip, sync-chip, slot-chip, slot-parts}
 use Rattle.slot.proofs.BurstPlace.{burst-whole, without-sync}
 use Rattle.read_sync.specs.SyncReading.{candidate-for, read-sync-call}
-use Rattle.demands.specs.Slots.{StartedSlot}
+use Rattle.demands.specs.AcceptedStarts.{AcceptedStart}
 use Rattle.demands.specs.Fields.{AreDrawn, chips-from}
 use Rattle.demands.specs.Valid.{ValidSync, Valid}
 use Rattle.demands.proofs.BurstReadBack.{burst-read-back}
@@ -45,7 +45,7 @@ silent s h x =
     both : (before q : ℕ) → data-chip (without-sync s) before q ⊕ 𝟎 ≡ 𝟎
     both before q = ⊕-𝟎 _ ∙ data-silent (without-sync s) h before q
 
-pub slot-burst : (slot : StartedSlot) → Good slot → (y : SyncSetup)
+pub slot-burst : (slot : AcceptedStart) → Good slot → (y : SyncSetup)
     → (let s = slot .settings in let g = code-group (s .cell) in let x = burst-start g in
     s .sync ≡ some y → ((Q k : ℕ) → s .channel Q k ≡ none) → AreDrawn slot x 256
     → read-sync-call (y .case) (chips-from slot x 256 .re) (chips-from slot x 256 .im) ≡ gives (candidate-for g (y .frame) (y .half)))

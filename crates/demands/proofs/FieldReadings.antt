@@ -26,7 +26,7 @@ use Rattle.slot.specs.Setup.{SyncSetup, Setup}
 use Rattle.slot.specs.Slot.{data-chip, burst-falls-on, sync-chip, slot-chip}
 use Rattle.analyser_parts.proofs.Ranges.{none-outside}
 use Rattle.read.specs.Reading.{reading, read-call}
-use Rattle.demands.specs.Slots.{StartedSlot, InOrder}
+use Rattle.demands.specs.AcceptedStarts.{AcceptedStart, InOrder}
 use Rattle.demands.specs.Fields.{Field, field-length, field-start, chips-before, entries-from, AreDrawn, DrawnWhole, chips-from, drawn-field, reading-count, Suffice, no-burst}
 use Rattle.demands.specs.Valid.{Valid}
 use Rattle.demands.proofs.Readings.{reading-additive}
@@ -98,7 +98,7 @@ of-data s f Q k = reading (s .cell) Q k (data-chip s (chips-before s f))
 abbrev pub of-burst : Setup → Field → ℕ → ℕ → ℕ → Complex
 of-burst s f Q k = reading (s .cell) Q k (field-sync s f)
 
-module _ (slot : StartedSlot) (v : Valid (slot .settings)) (o : InOrder slot) where
+module _ (slot : AcceptedStart) (v : Valid (slot .settings)) (o : InOrder slot) where
   abbrev s : Setup
   s = slot .settings
 

@@ -10,7 +10,7 @@ use Rattle.complex.proofs.Ring.{⊕-𝟎}
 use Rattle.complex.proofs.Sums.{Σℤ-cong}
 use Rattle.slot.specs.Setup.{Setup}
 use Rattle.slot.specs.Slot.{data-chip, sync-chip, slot-chip}
-use Rattle.demands.specs.Slots.{StartedSlot}
+use Rattle.demands.specs.AcceptedStarts.{AcceptedStart}
 use Rattle.demands.specs.Fields.{Field, field-length, field-start, chips-before, AreDrawn, no-burst, power-of-16-chips, power-due}
 use Rattle.demands.specs.Valid.{Valid}
 use Rattle.demands.proofs.History.{Good}
@@ -19,7 +19,7 @@ use Rattle.demands.proofs.FieldReadings.{quiet-chip, drawn-chip}
 use Rattle.orthogonality.proofs.DataPower.{data-power}
 
 -- The 16 chips from chip 16m of a field on, all drawn, no burst chip among them; the field need not be drawn whole.
-pub slot-power : (slot : StartedSlot) → Good slot → (f : Field) (m : ℕ)
+pub slot-power : (slot : AcceptedStart) → Good slot → (f : Field) (m : ℕ)
     → (let s = slot .settings in 16 * m + 16 ≤ field-length s f → AreDrawn slot (field-start s f + 16 * m) 16
     → no-burst s (field-start s f + 16 * m) 16 ≡ true → power-of-16-chips slot (field-start s f + 16 * m) ≡ power-due s)
 slot-power slot g f m inside drawn quiet =

@@ -8,7 +8,7 @@ use Rattle.bench.specs.BenchCalls.{fresh}
 use Rattle.demands.specs.Calls.{Call, BenchAnswer, Step}
 use Rattle.demands.specs.Reference.{Reference, fresh-reference, arguments, answers-by, left-after}
 use Rattle.demands.specs.Runs.{RunFrom, ended, _then_, Run, answers-in, left-from, left-in}
-use Rattle.demands.specs.Slots.{StartedSlot, slots-from, started-slots}
+use Rattle.demands.specs.AcceptedStarts.{AcceptedStart, starts-from, accepted-starts}
 use Rattle.demands.proofs.Steps.{reference-of, ValidBench, ran-steps, fresh-same, fresh-bench-valid}
 use Rattle.demands.proofs.History.{Good, All, Recorded, all-good, kept-by}
 
@@ -17,10 +17,10 @@ pub record Holds (b : Bench) (calls : List (Call (List ℤ))) (ys : List (Step B
   pub answers : answers-in ys ≡ answers-by (reference-of b) (map arguments calls)
   pub left : left-after (reference-of b) (map arguments calls) ≡ reference-of (left-from b ys)
   pub valid : ValidBench (left-from b ys)
-  pub recorded : (past : List StartedSlot) → Recorded (reference-of b) past → Recorded (reference-of (left-from b ys)) (slots-from (reference-of b) past calls (answers-in ys))
+  pub recorded : (past : List AcceptedStart) → Recorded (reference-of b) past → Recorded (reference-of (left-from b ys)) (starts-from (reference-of b) past calls (answers-in ys))
 
 holds : {b : Bench} {calls : List (Call (List ℤ))} {ys : List (Step Bench)} → ValidBench b → RunFrom b calls ys → Holds b calls ys
-unfolding answers-by left-after slots-from
+unfolding answers-by left-after starts-from
 holds v ended = record { answers = refl; left = refl; valid = v; recorded = λ past h. h }
 holds v (_then_ {b} {c} {y} {cs} {ys} r run) =
     let s = ran-steps b v r in
@@ -40,9 +40,9 @@ module _ (run : Run) where
   pub run-holds : Holds (run .first) (run .calls) (run .steps)
   run-holds = holds (subst ValidBench (sym (run .fresh)) fresh-bench-valid) (run .ran)
 
-  pub run-recorded : Recorded (reference-of (left-in run)) (started-slots run)
-  run-recorded = subst (λ (r : Reference). Recorded (reference-of (left-in run)) (slots-from r [] (run .calls) (answers-in (run .steps)))) first-same
+  pub run-recorded : Recorded (reference-of (left-in run)) (accepted-starts run)
+  run-recorded = subst (λ (r : Reference). Recorded (reference-of (left-in run)) (starts-from r [] (run .calls) (answers-in (run .steps)))) first-same
       (run-holds .recorded [] (ap (λ (b : Bench). reference-of b .sending) (run .fresh)))
 
-  pub run-good : All Good (started-slots run)
-  run-good = all-good (reference-of (left-in run)) (run-holds .valid .model) (started-slots run) run-recorded
+  pub run-good : All Good (accepted-starts run)
+  run-good = all-good (reference-of (left-in run)) (run-holds .valid .model) (accepted-starts run) run-recorded

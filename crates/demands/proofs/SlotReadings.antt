@@ -22,7 +22,7 @@ use Rattle.analyser_parts.proofs.Ranges.{none-outside}
 use Rattle.orthogonality.proofs.Unrelated.{Free}
 use Rattle.orthogonality.proofs.DataReadings.{own-data, unrelated-data}
 use Rattle.demands.specs.Reference.{sync-changed}
-use Rattle.demands.specs.Slots.{StartedSlot}
+use Rattle.demands.specs.AcceptedStarts.{AcceptedStart}
 use Rattle.demands.specs.Fields.{Field, field-length, field-start, chips-before, DrawnWhole, drawn-field, reading-count, Suffice, own-readings, unrelated, zero-readings, no-burst, burst-field, quiet-field, added}
 use Rattle.demands.specs.Valid.{Valid}
 use Rattle.demands.proofs.Entries.{code-of, no-code-passes}
@@ -72,7 +72,7 @@ module _ (s : Setup) (v : Valid s) (f : Field) (Q k : ℕ) (c : is-code Q k ≡ 
       read-gives (s .cell) Q k (field-length s f) (field-sync s f) (v .cell) c (readable s (v .type) f)
       (λ q l. both-more (sync-within s v _) 94185 (lit≤ tt)) (length (out .re)) (length (out .im)) (w .re) (w .im)
 
-module _ (slot : StartedSlot) (g : Good slot) where
+module _ (slot : AcceptedStart) (g : Good slot) where
   abbrev s : Setup
   s = slot .settings
 

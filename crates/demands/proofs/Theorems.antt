@@ -25,7 +25,7 @@ use Rattle.demands.specs.Calls.{Call, draw, refused-by, Step}
 use Rattle.demands.specs.Reference.{Reference, fresh-reference, arguments, answers-by, left-after}
 use Rattle.demands.specs.Runs.{Ran, RunFrom, ended, _then_, Run, answers-in, left-in}
 use Rattle.demands.specs.AnalyserRuns.{Output, RanReadSync, wrote}
-use Rattle.demands.specs.Slots.{StartedSlot, started-slots, InOrder, NothingLeft}
+use Rattle.demands.specs.AcceptedStarts.{AcceptedStart, accepted-starts, InOrder, NothingLeft}
 use Rattle.demands.specs.Fields.{Field, field-length, field-start, AreDrawn, DrawnWhole, chips-from, drawn-field, reading-count, FieldRead, readings, own-readings, unrelated, zero-readings, no-burst, burst-field, quiet-field, added, BurstAdds, power-of-16-chips, power-due, FieldHardened, HardBits, AllHardBits}
 use Rattle.demands.specs.Valid.{Valid}
 use Rattle.demands.proofs.Steps.{reference-of, ValidBench, ran-steps}
@@ -72,16 +72,16 @@ module _ (run : Run) where
   bench-valid = run-holds run .valid
 
   -- "A draw is refused 11 exactly when no start was accepted yet or all 2,560 chips of the last accepted one are out."
-  pub refused-11 : (re im : List ℤ) (y : Step Bench) → Ran (left-in run) (draw re im) y → (y .answer ≡ refused-by 11) ↔ NothingLeft (started-slots run)
+  pub refused-11 : (re im : List ℤ) (y : Step Bench) → Ran (left-in run) (draw re im) y → (y .answer ≡ refused-by 11) ↔ NothingLeft (accepted-starts run)
   unfolding arguments
   refused-11 re im y h =
       let b = left-in run in
       let r = reference-of b in
       rw (← (ap (λ (z : Step Reference). z .answer) (ran-steps b bench-valid h .same)))
-      (draw-11 (r .settings) (r .sending) (r .sent) (bench-valid .model) (started-slots run) (run-recorded run) (length re) (length im))
+      (draw-11 (r .settings) (r .sending) (r .sent) (bench-valid .model) (accepted-starts run) (run-recorded run) (length re) (length im))
 
   -- ---- every accepted start, whatever calls fall between
-  module _ (slot : StartedSlot) (i : List·Memᴰ slot (started-slots run)) where
+  module _ (slot : AcceptedStart) (i : List·Memᴰ slot (accepted-starts run)) where
     abbrev s : Setup
     s = slot .settings
 

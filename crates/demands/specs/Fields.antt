@@ -18,7 +18,7 @@ use Rattle.bench.specs.BenchCalls.{related-to-open}
 use Rattle.orthogonality.specs.Gains.{squared-gains}
 use Rattle.demands.specs.Reference.{sync-changed}
 use Rattle.demands.specs.AnalyserRuns.{Output, RanRead, RanHarden, wrote, wrote-bits}
-use Rattle.demands.specs.Slots.{StartedSlot}
+use Rattle.demands.specs.AcceptedStarts.{AcceptedStart}
 
 -- the two data fields of a slot
 pub data Field : Type 0 where
@@ -54,18 +54,18 @@ entries-from at n l = take n (drop at l)
 
 -- the chips from chip x to chip x + n - 1 of the slot are drawn: they come in order from chip 0 on (`in-order`), so it is enough to count them.
 -- "A stretch of 16 data chips counts once all 16 are drawn"
-abbrev pub AreDrawn : StartedSlot → ℕ → ℕ → Type 0
+abbrev pub AreDrawn : AcceptedStart → ℕ → ℕ → Type 0
 AreDrawn slot x n = x + n ≤ length (slot .chips .re)
 
 -- "A field is drawn whole when all its chips are among them."
-abbrev pub DrawnWhole : StartedSlot → Field → Type 0
+abbrev pub DrawnWhole : AcceptedStart → Field → Type 0
 DrawnWhole slot f = let s = slot .settings in AreDrawn slot (field-start s f) (field-length s f)
 
 -- n chips of the slot from chip x on, and a field, as they were drawn, in two buffers that "hold them in order"
-abbrev pub chips-from : StartedSlot → ℕ → ℕ → Values
+abbrev pub chips-from : AcceptedStart → ℕ → ℕ → Values
 chips-from slot x n = record { re = entries-from x n (slot .chips .re); im = entries-from x n (slot .chips .im) }
 
-abbrev pub drawn-field : StartedSlot → Field → Values
+abbrev pub drawn-field : AcceptedStart → Field → Values
 drawn-field slot f = let s = slot .settings in chips-from slot (field-start s f) (field-length s f)
 
 abbrev pub reading-count : Setup → Field → ℕ → ℕ
@@ -133,7 +133,7 @@ pub record BurstAdds (s : Setup) (f : Field) (Q k : ℕ) (drawn : Values) (x : F
 
 -- ---- power, hard bits
 -- "the squared components of each 16 data chips add up to": those from chip x of the slot on, as they were drawn.
-abbrev pub power-of-16-chips : StartedSlot → ℕ → ℤ
+abbrev pub power-of-16-chips : AcceptedStart → ℕ → ℤ
 power-of-16-chips slot x = Σℤ< 16 (λ i. squared-size (value (slot .chips .re) (slot .chips .im) (x + i)))
 
 -- "16 times the sum of the squared gains", which are "those of the codes open at that start"

@@ -3,7 +3,7 @@ pub mod Reference
 pub mod LoadPlanReads
 pub mod Runs
 pub mod AnalyserRuns
-pub mod Slots
+pub mod AcceptedStarts
 pub mod Fields
 pub mod Valid
 pub mod Instances

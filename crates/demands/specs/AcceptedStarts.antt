@@ -14,18 +14,18 @@ use Rattle.demands.specs.Calls.{Call, set-cell, open-code, load-plan, cl
 use Rattle.demands.specs.Reference.{Reference, fresh-reference, reference-step, arguments}
 use Rattle.demands.specs.Runs.{Run, answers-in}
 
--- an accepted start: the settings at it, and the chips drawn after it
-pub record StartedSlot : Type 0 where
+-- an accepted start: "the settings at a start", and "the chips drawn after a start"
+pub record AcceptedStart : Type 0 where
   pub settings : Setup
   pub chips : Values
 
 -- an accepted start makes a copy (so there is one), and no chip is drawn yet
-abbrev pub begun : Option Setup → List StartedSlot → List StartedSlot
+abbrev pub begun : Option Setup → List AcceptedStart → List AcceptedStart
 begun none past = past
 begun (some copy) past = record { settings = copy; chips = record { re = []; im = [] } } ∷ past
 
 -- chips that a draw left come behind those drawn since the last accepted start
-abbrev pub extended : Values → List StartedSlot → List StartedSlot
+abbrev pub extended : Values → List AcceptedStart → List AcceptedStart
 extended v [] = []
 extended v (x ∷ past) = record { settings = x .settings; chips = record { re = x .chips .re ++ v .re; im = x .chips .im ++ v .im } } ∷ past
 
@@ -41,31 +41,31 @@ is-start clear-sync = false
 is-start start = true
 is-start (draw re im) = false
 
--- the slots after a call, by what the bench answered to it; `copy` is the ledger's after the call
-abbrev pub slots-after : Option Setup → Bool → BenchAnswer → List StartedSlot → List StartedSlot
-slots-after copy starts accepted past = cond starts (begun copy past) past
-slots-after copy starts (refused-by n) past = past
-slots-after copy starts (refused-record n place) past = past
-slots-after copy starts (drew m v) past = extended v past
+-- the accepted starts after a call, by what the bench answered to it; `copy` is the ledger's after the call
+abbrev pub starts-after : Option Setup → Bool → BenchAnswer → List AcceptedStart → List AcceptedStart
+starts-after copy starts accepted past = cond starts (begun copy past) past
+starts-after copy starts (refused-by n) past = past
+starts-after copy starts (refused-record n place) past = past
+starts-after copy starts (drew m v) past = extended v past
 
-unfoldable pub slots-from : Reference → List StartedSlot → List (Call (List ℤ)) → List BenchAnswer → List StartedSlot
-slots-from r past [] answers = past
-slots-from r past (c ∷ cs) [] = past
-slots-from r past (c ∷ cs) (a ∷ answers) =
+unfoldable pub starts-from : Reference → List AcceptedStart → List (Call (List ℤ)) → List BenchAnswer → List AcceptedStart
+starts-from r past [] answers = past
+starts-from r past (c ∷ cs) [] = past
+starts-from r past (c ∷ cs) (a ∷ answers) =
     let next = reference-step r (arguments c) .next in
-    slots-from next (slots-after (next .sending) (is-start c) a past) cs answers
+    starts-from next (starts-after (next .sending) (is-start c) a past) cs answers
 
 -- the accepted starts of a run, the last one first
-abbrev pub started-slots : Run → List StartedSlot
-started-slots run = slots-from fresh-reference [] (run .calls) (answers-in (run .steps))
+abbrev pub accepted-starts : Run → List AcceptedStart
+accepted-starts run = starts-from fresh-reference [] (run .calls) (answers-in (run .steps))
 
 -- "The chips drawn after an accepted start are, in order, those of the settings at that start": chips 0 to count - 1
-pub record InOrder (x : StartedSlot) : Type 0 where
+pub record InOrder (x : AcceptedStart) : Type 0 where
   pub count : ℕ
   pub at-most : count ≤ slot-length
   pub chips : x .chips ≡ in-buffers count (slot-chip (x .settings))
 
 -- "no start was accepted yet or all 2,560 chips of the last accepted one are out"
-abbrev pub NothingLeft : List StartedSlot → Type 0
+abbrev pub NothingLeft : List AcceptedStart → Type 0
 NothingLeft [] = Unit {0}
 NothingLeft (x ∷ past) = length (x .chips .re) ≡ slot-length
