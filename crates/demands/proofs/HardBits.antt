@@ -26,7 +26,7 @@ use Rattle.slot.specs.Slot.{slot-parts, bit-count}
 use Rattle.tables.proofs.Blocks.{Code}
 use Rattle.harden.specs.Hardening.{hard-pair, hard-bit, harden-call}
 use Rattle.orthogonality.proofs.Hardened.{hardened}
-use Rattle.demands.specs.Fields.{Field, field-1, field-2, field-length, chips-before, entries-from, reading-count, own-symbol, own-readings, no-burst, field-bits}
+use Rattle.demands.specs.Fields.{Field, field-1, field-2, field-length, chips-before, entries-from, reading-count, own-symbol, symbol-readings, no-burst, field-bits}
 use Rattle.demands.specs.Valid.{ValidChannel, Valid}
 use Rattle.demands.proofs.Entries.{code-of}
 
@@ -82,7 +82,7 @@ module _ (s : Setup) (v : Valid s) (Q k : ℕ) (c : ChannelSetup) (e : s .channe
   all-bits = both-fields s Q c (v .type) (code .factor) (h .count)
 
   pub own-bits : (f : Field) (n : ℕ) → 2 * reading-count s f Q ≤ n
-      → (let o = own-readings s f Q c in harden-call (o .re) (o .im) n ≡ gives (field-bits s f Q c))
+      → (let o = symbol-readings s f Q c in harden-call (o .re) (o .im) n ≡ gives (field-bits s f Q c))
   unfolding hard-bit
   own-bits f n enough-bytes =
       rw (length-listed _ N, length-listed _ N, eq-eqb N N refl, le-ltb n (2 * N) enough-bytes)

@@ -23,7 +23,7 @@ use Rattle.orthogonality.proofs.Unrelated.{Free}
 use Rattle.orthogonality.proofs.DataReadings.{own-data, unrelated-data}
 use Rattle.demands.specs.Reference.{sync-changed}
 use Rattle.demands.specs.AcceptedStarts.{AcceptedStart}
-use Rattle.demands.specs.Fields.{Field, field-length, field-start, chips-before, DrawnWhole, drawn-field, reading-count, Suffice, own-readings, unrelated, zero-readings, no-burst, burst-field, quiet-field, added}
+use Rattle.demands.specs.Fields.{Field, field-length, field-start, chips-before, DrawnWhole, drawn-field, reading-count, Suffice, symbol-readings, unrelated, zero-readings, no-burst, burst-field, quiet-field, added}
 use Rattle.demands.specs.Valid.{Valid}
 use Rattle.demands.proofs.Entries.{code-of, no-code-passes}
 use Rattle.demands.proofs.Valid.{sync-cleared-valid}
@@ -36,7 +36,7 @@ module _ (s : Setup) (v : Valid s) (f : Field) (Q k : ℕ) where
   is-code-of : (c : ChannelSetup) → s .channel Q k ≡ some c → is-code Q k ≡ true
   is-code-of c e = v .code Q k (ap is-some e)
 
-  pub own-of-data : (c : ChannelSetup) → s .channel Q k ≡ some c → in-buffers (reading-count s f Q) (of-data s f Q k) ≡ own-readings s f Q c
+  pub own-of-data : (c : ChannelSetup) → s .channel Q k ≡ some c → in-buffers (reading-count s f Q) (of-data s f Q k) ≡ symbol-readings s f Q c
   own-of-data c e =
       in-buffers-cong (reading-count s f Q) _ _
       (λ n l. own-data s (v .cell) (chips-before s f) Q k (is-code-of c e) c e (λ Q′ k′ c′ o r. v .apart Q k Q′ k′ (ap is-some e) o r) n)
@@ -92,7 +92,7 @@ module _ (slot : AcceptedStart) (g : Good slot) where
         ∙ ap gives (in-buffers-cong (reading-count s f Q) _ _ (no-burst-reading s (g .valid) f Q k e))
 
     pub own-reads : (c : ChannelSetup) → s .channel Q k ≡ some c → no-burst s (field-start s f) (field-length s f) ≡ true
-        → read-of s Q k (drawn-field slot f) out ≡ gives (own-readings s f Q c)
+        → read-of s Q k (drawn-field slot f) out ≡ gives (symbol-readings s f Q c)
     own-reads c e n = data-reads (is-code-of s (g .valid) f Q k c e) n ∙ ap gives (own-of-data s (g .valid) f Q k c e)
 
     pub zero-reads : is-code Q k ≡ true → unrelated s Q k ≡ true → no-burst s (field-start s f) (field-length s f) ≡ true

@@ -26,7 +26,7 @@ use Rattle.demands.specs.Reference.{Reference, fresh-reference, argument
 use Rattle.demands.specs.Runs.{Ran, RunFrom, ended, _then_, Run, answers-in, left-in}
 use Rattle.demands.specs.AnalyserRuns.{Output, RanReadSync, wrote}
 use Rattle.demands.specs.AcceptedStarts.{AcceptedStart, accepted-starts, InOrder, NothingLeft}
-use Rattle.demands.specs.Fields.{Field, field-length, field-start, AreDrawn, DrawnWhole, chips-from, drawn-field, reading-count, FieldRead, readings, own-readings, unrelated, zero-readings, no-burst, burst-field, quiet-field, added, BurstAdds, power-of-16-chips, power-due, FieldHardened, HardBits, AllHardBits}
+use Rattle.demands.specs.Fields.{Field, field-length, field-start, AreDrawn, DrawnWhole, chips-from, drawn-field, reading-count, FieldRead, readings, symbol-readings, unrelated, zero-readings, no-burst, burst-field, quiet-field, added, BurstAdds, power-of-16-chips, power-due, FieldHardened, HardBits, AllHardBits}
 use Rattle.demands.specs.Valid.{Valid}
 use Rattle.demands.proofs.Steps.{reference-of, ValidBench, ran-steps}
 use Rattle.demands.proofs.BurstDrawn.{slot-burst}
@@ -115,7 +115,7 @@ module _ (run : Run) where
     -- ---- "When a data field drawn whole is read with that start's cell parameter":
     module _ (f : Field) (whole : DrawnWhole slot f) (Q k : ℕ) (x : FieldRead s f Q k (drawn-field slot f)) where
       -- "each reading of a code open at that start is its spreading factor times its gain times its own symbol", in a field into which no burst falls
-      pub own-reading : (c : ChannelSetup) → s .channel Q k ≡ some c → no-burst s (field-start s f) (field-length s f) ≡ true → x .read ≡ wrote (own-readings s f Q c) (x .out)
+      pub own-reading : (c : ChannelSetup) → s .channel Q k ≡ some c → no-burst s (field-start s f) (field-length s f) ≡ true → x .read ≡ wrote (symbol-readings s f Q c) (x .out)
       own-reading c e n = read-meets (x .ran) (own-reads slot good f whole Q k (x .out) (x .suffice) c e n)
 
       -- "and each of a code unrelated to all of those is zero, whatever the others send"

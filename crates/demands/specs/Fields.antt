@@ -93,8 +93,8 @@ abbrev pub own-symbol : Setup → Field → ℕ → ChannelSetup → ℕ → Com
 own-symbol s f Q c n = symbol (pair (c .bits) (chips-before s f / Q + n))
 
 -- "each reading of a code open at that start is its spreading factor times its gain times its own symbol"
-abbrev pub own-readings : Setup → Field → ℕ → ChannelSetup → Values
-own-readings s f Q c = in-buffers (reading-count s f Q) (λ n. real (pos Q) ⊗ real (pos (c .gain)) ⊗ own-symbol s f Q c n)
+abbrev pub symbol-readings : Setup → Field → ℕ → ChannelSetup → Values
+symbol-readings s f Q c = in-buffers (reading-count s f Q) (λ n. real (pos Q) ⊗ real (pos (c .gain)) ⊗ own-symbol s f Q c n)
 
 -- "a code unrelated to all of those": no open code is related to it
 abbrev pub unrelated : Setup → ℕ → ℕ → Bool
@@ -113,6 +113,10 @@ no-burst s x n = each n (λ i. not (burst-falls-on (s .cell) (s .sync) (x + i)))
 abbrev pub burst-field : Setup → Field → Values
 burst-field s f = in-buffers (field-length s f) (λ q. sync-chip (s .cell) (s .sync) (field-start s f + q))
 
+-- "A sync burst's own reading is what the same read gives for" it
+abbrev pub burst-own-reading : {s : Setup} {f : Field} {Q k : ℕ} → FieldRead s f Q k (burst-field s f) → Values
+burst-own-reading x = readings x
+
 -- that field of the same settings without sync
 abbrev pub quiet-field : Setup → Field → Values
 quiet-field s f = in-buffers (field-length s f) (λ q. slot-chip (sync-changed s none) (field-start s f + q))
@@ -125,14 +129,15 @@ added n v w = in-buffers n (λ i. value (v .re) (v .im) i ⊕ value (w .re) (w .
 -- drawn, quiet without sync, burst with the burst's chips alone; read accepts all three
 pub record BurstAdds (s : Setup) (f : Field) (Q k : ℕ) (drawn : Values) (x : FieldRead s f Q k drawn) (quiet : FieldRead s f Q k (quiet-field s f)) (burst : FieldRead s f Q k (burst-field s f)) : Type 0 where
   pub quiet-accepted : quiet .read ≡ wrote (readings quiet) (quiet .out)
-  pub burst-accepted : burst .read ≡ wrote (readings burst) (burst .out)
-  pub sum : x .read ≡ wrote (added (reading-count s f Q) (readings quiet) (readings burst)) (x .out)
+  pub burst-accepted : burst .read ≡ wrote (burst-own-reading burst) (burst .out)
+  pub sum : x .read ≡ wrote (added (reading-count s f Q) (readings quiet) (burst-own-reading burst)) (x .out)
   -- where the code is open, and where it is unrelated to all open ones
-  pub if-open : (c : ChannelSetup) → s .channel Q k ≡ some c → readings quiet ≡ own-readings s f Q c
+  pub if-open : (c : ChannelSetup) → s .channel Q k ≡ some c → readings quiet ≡ symbol-readings s f Q c
   pub if-unrelated : unrelated s Q k ≡ true → readings quiet ≡ zero-readings s f Q
 
 -- ---- power, hard bits
--- "the squared components of each 16 data chips add up to": those from chip x of the slot on, as they were drawn.
+-- "the squared components of each 16 data chips add up to": those from chip x of the slot on, as they were drawn (`AreDrawn`; the theorem
+-- `power` says from which chips of a field on).
 abbrev pub power-of-16-chips : AcceptedStart → ℕ → ℤ
 power-of-16-chips slot x = Σℤ< 16 (λ i. squared-size (value (slot .chips .re) (slot .chips .im) (x + i)))
 
@@ -155,7 +160,7 @@ pub record FieldHardened (s : Setup) (f : Field) (Q k : ℕ) (chips : Values) : 
 -- "hardening the readings of a channel .. yields the bits it held when that slot started": read wrote the channel's own readings, and harden the bits that
 -- the field sends
 pub record HardBits (s : Setup) (f : Field) (Q k : ℕ) (chips : Values) (c : ChannelSetup) (x : FieldHardened s f Q k chips) : Type 0 where
-  pub read-wrote : x .field .read ≡ wrote (own-readings s f Q c) (x .field .out)
+  pub read-wrote : x .field .read ≡ wrote (symbol-readings s f Q c) (x .field .out)
   pub harden-wrote : x .hardened ≡ wrote-bits (field-bits s f Q c) (x .bits)
 
 -- of both fields: one after the other, they are all of its bits

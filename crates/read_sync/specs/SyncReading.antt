@@ -35,13 +35,14 @@ candidate case n = cond (eqb case 1) (candidate-for (n / 2) (1 + n % 2) 0) (cand
 abbrev pub candidate-codes : ℕ → Candidate → Allocated
 candidate-codes case c = allocation case (c .group .0) (c .frame) (c .half)
 
--- Its score is the sum over its three codes of the real part of S(i) × conj(u) × conj(P).
+-- what one code adds to a score
 unfoldable pub share : (ℕ → Complex) → ModulatedCode → ℤ
 share chip m = (S chip (m .code) ⊗ conj (m .unit) ⊗ conj (P chip)) .re
 
 abbrev pub total-share : (ℕ → Complex) → Allocated → ℤ
 total-share chip s = share chip (s .first) +ℤ share chip (s .second) +ℤ share chip (s .marker)
 
+-- Its score is the sum over its three codes of the real part of S(i) × conj(u) × conj(P).
 unfoldable pub score : ℕ → (ℕ → Complex) → ℕ → ℤ
 score case chip n = total-share chip (candidate-codes case (candidate case n))
 
