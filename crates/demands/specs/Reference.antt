@@ -84,7 +84,7 @@ under-way r = is-some (r .sending)
 abbrev pub settings-changed : Reference → Setup → Reference
 settings-changed r s = record { settings = s; sending = r .sending; sent = r .sent }
 
--- A refused call gets its number, load plan the place too, and changes nothing (here, and in `start-step` and `draw-step`). Each accepted call but
+-- A refused call gets its number, load plan the place too, and changes nothing (here, and in `plan-step`, `start-step` and `draw-step`). Each accepted call but
 -- start and draw changes the settings by its entry.
 abbrev pub entry-step : Reference → Answer Setup → Step Reference
 entry-step r (refused n) = record { answer = refused-by n; next = r }
