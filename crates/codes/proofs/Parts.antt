@@ -35,11 +35,11 @@ shared i m n h =
     e : 16 * i ≡ i * 16 + 0
     e = omega arith
 
-hadamard-shared : (i m n : ℕ) → n < 16 → hadamard (16 * i) (m * 16 + n) ≡ minus-if (eqb (ones (bitAnd i m) % 2) 1)
+hadamard-shared : (i m n : ℕ) → n < 16 → hadamard (16 * i) (m * 16 + n) ≡ hadamard i m
 unfolding hadamard
 hadamard-shared i m n h = rw (shared i m n h)
 
-pub hadamard-part-is : (i m : ℕ) → i < 16 → m < 16 → hadamard-part i m ≡ minus-if (eqb (ones (bitAnd i m) % 2) 1)
+pub hadamard-part-is : (i m : ℕ) → i < 16 → m < 16 → hadamard-part i m ≡ hadamard i m
 unfolding hadamard-part
 hadamard-part-is i m h g = simp (lt-ltb i 16 h, lt-ltb m 16 g) (ap (hadamard (16 * i)) e ∙ hadamard-shared i m 0 (lit< tt))
   where
@@ -92,7 +92,7 @@ module _ (m n : ℕ) (h : n < 16) where
 
 -- ---- the signs of the parts, as the code holds them
 kept : ℕ → ℕ → Bool
-kept i m = same (sign-bit (secondary-row i) m) (b-signs at m *ℤ minus-if (eqb (ones (bitAnd i m) % 2) 1))
+kept i m = same (sign-bit (secondary-row i) m) (b-signs at m *ℤ hadamard i m)
 
 kept-test : T (each 16 (λ i. each 16 (kept i)))
 unfolding each kept same sign-bit secondary-row ones onesIn _at_ hadamard

@@ -9,6 +9,7 @@ use lib.ListN.{getD}
 abbrev pub node : ℕ → ℕ → ℕ
 node Q k = Q - 1 + k
 
+-- ---- what only the functions need
 -- code (Q, k) is open in the gains
 abbrev pub open-at : List ℕ → ℕ → ℕ → Bool
 open-at gains Q k = not (eqb (getD gains (node Q k) 0) 0)

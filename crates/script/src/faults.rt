@@ -76,7 +76,7 @@ fn wrong(out: &mut Answers, n: usize, fault: Fault, line: &[u8], chips: usize) -
 fn right(out: &mut Answers, n: usize, fault: Fault, form: &[u8], chips: usize) -> usize {
     match fault {
         Fault::Unknown(_) => answers::text(out, n, b"one of those that help lists"),
-        Fault::Outside(_, _) => { answers::counted(out, n, b"FROM + COUNT at most ", chips as u64) }
+        Fault::Outside(_, _) => answers::counted(out, n, b"FROM + COUNT at most ", chips as u64),
         Fault::Full(_) => {
             let left = std::num::wrapping_sub_usize(CHIPS, chips);
             let m = answers::counted(out, n, b"at most ", left as u64);
