@@ -1,20 +1,29 @@
-// Draws into buffers of any length.
+// Draws into buffers of any length, to the end of the recording.
 ghost use mathlib.Core.Path.{_≡_};
 ghost use Prim.Native.Nat.{_≤_};
 ghost use lib.ListN.{length};
 ghost use Rattle.complex.specs.Buffers.{written};
 ghost use Rattle.codes.specs.Refusals.{after};
 ghost use Rattle.bench.specs.BenchCalls.{draw-outcome, draw-call, answer-of-draw};
+ghost use Rattle.bench_lines.specs.Drawing.{after-draw, answer-of-count, draw-answer, kept};
+use crate::Left;
+use crate::State;
 use bench::Bench;
+use bench::DrawAnswer;
 use bench::Drawn;
+use recording_lines::fits;
+use script::answer::Answer;
+use script::faults::Fault;
+use script::memory;
+use script::memory::Memory;
 use slot::field;
 
 // As many entries as a slot has chips.
-pub type SlotBuffer = [i32; 2560];
+type SlotBuffer = [i32; 2560];
 
 // What a draw into buffers of n and m entries does and answers, whatever n and m are. A slot has 2,560 chips, so a longer buffer gets no more than
 // these two take.
-pub fn draw_any(b: Bench, n: u32, m: u32, re: &mut SlotBuffer, im: &mut SlotBuffer) -> Drawn
+fn draw_any(b: Bench, n: u32, m: u32, re: &mut SlotBuffer, im: &mut SlotBuffer) -> Drawn
     ensures answer { λ r. ⌜ answer-of-draw (r .answer) ≡ draw-outcome (draw-call b n m) ⌝ }
     ensures bench { λ r. ⌜ r .bench ≡ after (draw-call b n m) b (λ d. d .bench) ⌝ }
     ensures real { λ r. ⌜ now (re .exit) ≡ after (draw-call b n m) (now (re .entry)) (λ d. written (d .chips .re) (now (re .entry))) ⌝ }
@@ -36,4 +45,62 @@ fn draw_parts(b: Bench, n: u32, m: u32, re: &mut [i32], im: &mut [i32]) -> Drawn
     }
     let count = field::smaller(n as usize, 2560);
     b.draw(&mut re[..count], &mut im[..count])
+}
+
+// Puts the first `count` chips behind the first `at` ones of the recording.
+fn append(m: &mut Memory, at: usize, re: &SlotBuffer, im: &SlotBuffer, count: usize) {
+    let mut k = at;
+    for i in 0..count {
+        if i >= 2560 {
+            break;
+        }
+        memory::put(m, k, re[i], im[i]);
+        k = std::num::wrapping_add_usize(k, 1);
+    }
+}
+
+// After an accepted draw of `count` chips, which left the bench b.
+fn drew(s: State, b: Bench, count: usize) -> Left
+    ensures state { λ r. ⌜ r .state ≡ kept s b count ⌝ }
+    ensures answer { λ r. ⌜ r .answer ≡ answer-of-count s count ⌝ }
+{
+    if fits(s.chips, count) {
+        let next = State {
+            bench: b,
+            chips: s.chips + count,
+            readings: s.readings,
+            brief: s.brief,
+        };
+        return Left {
+            state: next,
+            answer: Answer::Counted(count),
+        };
+    }
+    Left {
+        state: s,
+        answer: Answer::Wrong(Fault::Full(count)),
+    }
+}
+
+// A draw into buffers of n and m entries.
+pub fn draw(s: State, n: u32, m: u32, memory: &mut Memory) -> Left
+    ensures state { λ r. ⌜ r .state ≡ after-draw s (draw-call (s .bench) n m) ⌝ }
+    ensures answer { λ r. ⌜ r .answer ≡ draw-answer s (draw-call (s .bench) n m) ⌝ }
+{
+    let mut re = [0i32; 2560];
+    let mut im = [0i32; 2560];
+    let b = s.bench;
+    let d = draw_any(b, n, m, &mut re, &mut im);
+    let a = d.answer;
+    match a {
+        DrawAnswer::Refused(number) => Left {
+            state: s,
+            answer: Answer::Refused(number),
+        },
+        DrawAnswer::Drew(count) => {
+            append(memory, s.chips, &re, &im, count);
+            let next = d.bench;
+            drew(s, next, count)
+        }
+    }
 }

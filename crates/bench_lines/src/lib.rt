@@ -1,106 +1,140 @@
-// The bench's calls from a line: load plan and load bits, which take more of it than numbers, draws of any length, and the answers of the calls that change
-// settings or start a slot.
+// The bench's calls from a line.
 use bench::Answered;
 use bench::Bench;
 use bench::CallAnswer;
 use bench::PlanAnswer;
+use bench::Planned;
+use codes::CellParameter;
+use script::answer::Answer;
 use script::arguments;
 use script::faults::Fault;
-use text::answers;
-use text::answers::Answers;
+use script::memory::Memory;
+use script::rows::CLEAR_SYNC;
+use script::rows::CLOSE;
+use script::rows::DRAW;
+use script::rows::LOAD_BITS;
+use script::rows::LOAD_PLAN;
+use script::rows::OPEN;
+use script::rows::SET_CELL;
+use script::rows::SET_GAIN;
+use script::rows::SET_SYNC;
 use text::words;
 
 mod bits;
-pub mod drawing;
+mod drawing;
 mod plans;
 
-// What a line leaves: the bench, how many bytes of the answers are used, and what was wrong with it.
-pub struct Left {
+// What a line finds and leaves: the bench, how many chips the recording has, how many readings the last accepted read gave, and whether long lines are told in
+// brief.
+pub struct State {
     pub bench: Bench,
-    pub n: usize,
-    pub fault: Fault,
+    pub chips: usize,
+    pub readings: usize,
+    pub brief: bool,
 }
 
-fn no_call(b: Bench, n: usize, fault: Fault) -> Left {
-    Left { bench: b, n, fault }
+// What a line leaves, and what it is answered.
+pub struct Left {
+    pub state: State,
+    pub answer: Answer,
 }
 
-pub fn refused(out: &mut Answers, n: usize, number: u32) -> usize {
-    let m = answers::text(out, n, b"refused ");
-    answers::natural(out, m, number)
-}
-
-// The answer of a call that only changes settings, or starts a slot.
-pub fn told(r: Answered, out: &mut Answers, n: usize) -> Left {
-    let a = r.answer;
-    let m = match a {
-        CallAnswer::Accepted => answers::text(out, n, b"ok"),
-        CallAnswer::Refused(number) => refused(out, n, number),
+// The call with this row and these numbers; what follows them in the line begins at `rest`.
+pub fn call(row: usize, x: [u32; 5], line: &[u8], rest: usize, s: State, m: &mut Memory) -> Left {
+    if row == DRAW {
+        return drawing::draw(s, x[0], x[1], m);
+    }
+    let b = s.bench;
+    let told = match row {
+        LOAD_PLAN => load_plan(b, plans::records(line, rest)),
+        LOAD_BITS => load_bits(b, x[0], x[1], line, rest),
+        _ => changed(numbered(row, x, b)),
     };
-    let bench = r.bench;
-    Left {
+    let bench = told.bench;
+    let answer = told.answer;
+    let state = State {
         bench,
-        n: answers::byte(out, m, b'\n'),
-        fault: Fault::None,
+        chips: s.chips,
+        readings: s.readings,
+        brief: s.brief,
+    };
+    Left { state, answer }
+}
+
+// The bench after a call, and what the call is answered.
+struct Told {
+    bench: Bench,
+    answer: Answer,
+}
+
+fn no_call(bench: Bench, fault: Fault) -> Told {
+    Told {
+        bench,
+        answer: Answer::Wrong(fault),
     }
 }
 
+// A call that takes numbers alone; START is the row that is left.
+fn numbered(row: usize, x: [u32; 5], b: Bench) -> Answered {
+    let first = x[0];
+    let second = x[1];
+    let third = x[2];
+    match row {
+        SET_CELL => b.set_cell(CellParameter(first), second),
+        OPEN => b.open(first, second, third),
+        CLOSE => b.close(first, second),
+        SET_GAIN => b.set_gain(first, second, third),
+        SET_SYNC => b.set_sync(first, second, third, x[3], x[4]),
+        CLEAR_SYNC => b.clear_sync(),
+        _ => b.start(),
+    }
+}
+
+fn changed(r: Answered) -> Told {
+    let bench = r.bench;
+    let a = r.answer;
+    let answer = match a {
+        CallAnswer::Accepted => Answer::Done,
+        CallAnswer::Refused(number) => Answer::Refused(number),
+    };
+    Told { bench, answer }
+}
+
 // The bits are the word at or after `at`; none is no bits.
-pub fn load_bits(
-    b: Bench,
-    q: u32,
-    k: u32,
-    line: &[u8],
-    at: usize,
-    out: &mut Answers,
-    n: usize,
-) -> Left {
+fn load_bits(b: Bench, q: u32, k: u32, line: &[u8], at: usize) -> Told {
     let w = words::next(line, at);
     let bits = bits::digits(words::part(line, w.from, w.to));
     if !bits.right {
-        return no_call(b, n, Fault::NoBits(w));
+        return no_call(b, Fault::NoBits(w));
     }
     let fault = arguments::extra(line, w.to);
     match fault {
         Fault::None => {
             let bytes = bits.bytes;
-            told(
-                b.load_bits(q, k, words::part(&bytes, 0, bits.count)),
-                out,
-                n,
-            )
+            changed(b.load_bits(q, k, words::part(&bytes, 0, bits.count)))
         }
-        _ => no_call(b, n, fault),
+        _ => no_call(b, fault),
     }
 }
 
-// The records are the words at or after `at`. At most 16 codes can be open together, so the first 17 records decide.
-pub fn load_plan(b: Bench, line: &[u8], at: usize, out: &mut Answers, n: usize) -> Left {
-    let plan = plans::records(line, at);
+// At most 16 codes can be open together, so the first 17 records decide.
+fn load_plan(b: Bench, plan: plans::Plan) -> Told {
     let fault = plan.fault;
     match fault {
         Fault::None => {
             let records = plan.first;
-            let r = b.load_records(records, plan.count);
-            let a = r.answer;
-            let bench = r.bench;
-            Left {
-                bench,
-                n: plan_answer(a, out, n),
-                fault: Fault::None,
-            }
+            planned(b.load_records(records, plan.count))
         }
-        _ => no_call(b, n, fault),
+        _ => no_call(b, fault),
     }
 }
 
-fn plan_answer(a: PlanAnswer, out: &mut Answers, n: usize) -> usize {
-    match a {
-        PlanAnswer::Loaded => answers::text(out, n, b"ok\n"),
-        PlanAnswer::Refused(number, place) => {
-            let m = refused(out, n, number);
-            let k = answers::counted(out, m, b" place ", place as u64);
-            answers::byte(out, k, b'\n')
-        }
-    }
+fn planned(r: Planned) -> Told {
+    let bench = r.bench;
+    let a = r.answer;
+    let answer = match a {
+        PlanAnswer::Loaded => Answer::Done,
+        PlanAnswer::Refused(number, place) => Answer::RefusedAt(number, place),
+    };
+    Told { bench, answer }
 }

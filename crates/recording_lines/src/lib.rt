@@ -1,62 +1,25 @@
 // The calls of a line that make a recording of chips and read it.
 ghost use mathlib.Core.Path.{_≡_};
-ghost use Rattle.script.specs.declared.faults.Fault.the-variants.{None};
-ghost use Rattle.recording_lines.specs.Drawing.{fit};
-use bench::Bench;
+ghost use Rattle.recording_lines.specs.Room.{fit};
+use script::answer::Answer;
 use script::faults::Fault;
+use script::memory::CHIPS;
+use script::memory::Memory;
+use script::rows::ERASE;
+use script::rows::HARDEN;
+use script::rows::NOISE;
+use script::rows::READ;
+use script::rows::READ_SYNC;
+use script::rows::RECORD;
+use script::rows::SHOW;
+use script::rows::SILENCE;
 
-pub mod drawing;
-pub mod reading;
-pub mod recording;
-pub mod sync;
+mod noise;
+mod reading;
+mod recording;
+mod sync;
 
-// How many chips a recording holds.
-pub use script::faults::CHIPS;
-
-// Past the chips of a full recording there is room for those of one line, at most 16,384, or of one draw: they are put there first,
-// and counted once it is known that they fit.
-pub const ROOM: usize = 54784;
-
-pub type Chips = [i32; ROOM];
-
-// The most readings that a read gives.
-pub const READINGS: usize = 1104;
-
-pub type Readings = [i32; READINGS];
-
-// What a line finds and leaves: the bench, how many chips the recording has, how many readings the last accepted read gave.
-pub struct State {
-    pub bench: Bench,
-    pub chips: usize,
-    pub readings: usize,
-}
-
-// What a line leaves, how many bytes of the answers are used, and what was wrong with it.
-pub struct Done {
-    pub state: State,
-    pub n: usize,
-    pub fault: Fault,
-}
-
-pub fn answered(state: State, n: usize) -> Done
-    ensures left { λ r. ⌜ r .state ≡ state ⌝ }
-    ensures told { λ r. ⌜ r .fault ≡ None ⌝ }
-{
-    Done {
-        state,
-        n,
-        fault: Fault::None,
-    }
-}
-
-pub fn no_call(state: State, n: usize, fault: Fault) -> Done
-    ensures left { λ r. ⌜ r .state ≡ state ⌝ }
-    ensures told { λ r. ⌜ r .fault ≡ fault ⌝ }
-{
-    Done { state, n, fault }
-}
-
-// Whether so many more chips fit into the recording.
+// Whether so many more chips fit into a recording.
 pub fn fits(chips: usize, count: usize) -> bool
     ensures { λ r. ⌜ r ≡ fit chips count ⌝ }
 {
@@ -64,4 +27,77 @@ pub fn fits(chips: usize, count: usize) -> bool
         return false;
     }
     chips <= CHIPS - count
+}
+
+// The call with this row and these numbers. The recording has so many chips, and the last accepted read gave so many readings.
+pub fn call(
+    row: usize,
+    x: [u32; 5],
+    line: &[u8],
+    chips: usize,
+    readings: usize,
+    m: &mut Memory,
+) -> Answer {
+    match row {
+        RECORD => recording::record(line, chips, m),
+        SILENCE => recording::silence(x[0], chips, m),
+        ERASE => Answer::Erased,
+        HARDEN => reading::harden(readings, m),
+        _ => of_part(row, x, chips, m),
+    }
+}
+
+// FROM and COUNT of a line.
+struct Part {
+    from: u32,
+    count: u32,
+}
+
+fn part_of(row: usize, x: [u32; 5]) -> Part {
+    match row {
+        READ => Part {
+            from: x[3],
+            count: x[4],
+        },
+        READ_SYNC => Part {
+            from: x[1],
+            count: x[2],
+        },
+        _ => Part {
+            from: x[0],
+            count: x[1],
+        },
+    }
+}
+
+// A call on a part of the recording; FIND is the one that is left.
+fn of_part(row: usize, x: [u32; 5], chips: usize, m: &mut Memory) -> Answer {
+    let p = part_of(row, x);
+    let fault = unfit(row, x[3], chips, p);
+    let from = p.from as usize;
+    let count = p.count as usize;
+    match fault {
+        Fault::None => match row {
+            NOISE => noise::add(from, count, x[2], x[3], m),
+            SHOW => Answer::Chips(from, count),
+            READ => reading::read(x, from, count, m),
+            READ_SYNC => sync::read_sync(x[0], from, count, m),
+            _ => sync::find(from, count, m),
+        },
+        _ => Answer::Wrong(fault),
+    }
+}
+
+// What is wrong with the size of a noise, or with the part: it goes past the recording's end.
+fn unfit(row: usize, size: u32, chips: usize, p: Part) -> Fault {
+    if row == NOISE && size > 100000 {
+        return Fault::Loud(size);
+    }
+    let from = p.from as usize;
+    if from <= chips {
+        if p.count as usize <= chips - from {
+            return Fault::None;
+        }
+    }
+    Fault::Outside(p.from, p.count)
 }

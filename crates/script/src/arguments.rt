@@ -1,33 +1,98 @@
-// The words of a call after its name, as numbers.
+// A line as numbers.
 use crate::faults::Fault;
 use crate::forms;
+use crate::forms::Form;
+use crate::rows::DRAW;
+use crate::rows::RECORD;
 use text::numbers;
 use text::numbers::Component;
 use text::numbers::Natural;
 use text::words;
 
-// The numbers that a form asks for, and where the line goes on; or what is wrong.
+// The numbers of a line, and where it goes on after them; or what is wrong.
 pub struct Numbers {
     pub fault: Fault,
     pub rest: usize,
     pub x: [u32; 5],
 }
 
-// A number and where the line goes on after it.
-pub enum Argument {
-    Is(u32, usize),
-    End,
-    Not(Fault),
+// A line's form, which has row 0 where the line has no name of a call, and its numbers.
+pub struct Line {
+    pub form: Form,
+    pub numbers: Numbers,
 }
 
-pub fn natural(line: &[u8], at: usize) -> Argument {
-    let w = words::next(line, at);
+// A line with no word has row 0, and no fault.
+pub fn parsed(forms: &[u8], line: &[u8]) -> Line {
+    let w = words::next(line, 0);
+    let form = forms::named(forms, words::part(line, w.from, w.to));
+    let row = form.row;
+    let numbers = match row {
+        0 => none(unknown(w), w.to),
+        RECORD => none(Fault::None, w.to),
+        DRAW => lengths(first(1, line, w.to), line),
+        _ => all(words::part(forms, form.from, form.to), line, w.to),
+    };
+    Line { form, numbers }
+}
+
+fn unknown(w: words::Word) -> Fault {
     if w.from == w.to {
-        return Argument::End;
+        return Fault::None;
     }
-    match numbers::to_natural(words::part(line, w.from, w.to)) {
-        Natural::Is(v) => Argument::Is(v, w.to),
-        Natural::Bad => Argument::Not(Fault::NoNumber(w)),
+    Fault::Unknown(w)
+}
+
+fn none(fault: Fault, rest: usize) -> Numbers {
+    Numbers {
+        fault,
+        rest,
+        x: [0; 5],
+    }
+}
+
+// The numbers that the form asks for. Where it has no words in brackets, nothing may follow them.
+fn all(form: &[u8], line: &[u8], at: usize) -> Numbers {
+    let wanted = forms::wanted(form);
+    let read = first(wanted.count, line, at);
+    if wanted.more {
+        return read;
+    }
+    let fault = read.fault;
+    let x = read.x;
+    ended(fault, x, line, read.rest)
+}
+
+// These numbers and what is wrong with them; or with the line, where it has a word at or after `at`.
+fn ended(fault: Fault, x: [u32; 5], line: &[u8], at: usize) -> Numbers {
+    match fault {
+        Fault::None => Numbers {
+            fault: extra(line, at),
+            rest: at,
+            x,
+        },
+        _ => none(fault, at),
+    }
+}
+
+// The second length of a draw is the word after the first, or else the first.
+fn lengths(read: Numbers, line: &[u8]) -> Numbers {
+    let fault = read.fault;
+    let mut x = read.x;
+    let first = x[0];
+    match fault {
+        Fault::None => match natural(line, read.rest) {
+            Argument::Is(second, rest) => {
+                x[1] = second;
+                ended(fault, x, line, rest)
+            }
+            Argument::End => {
+                x[1] = first;
+                ended(fault, x, line, read.rest)
+            }
+            Argument::Not(wrong) => none(wrong, read.rest),
+        },
+        _ => read,
     }
 }
 
@@ -40,35 +105,27 @@ pub fn extra(line: &[u8], at: usize) -> Fault {
     Fault::Extra(w)
 }
 
-fn wrong(fault: Fault) -> Numbers {
-    Numbers {
-        fault,
-        rest: 0,
-        x: [0; 5],
+// A number and where the line goes on after it.
+enum Argument {
+    Is(u32, usize),
+    End,
+    Not(Fault),
+}
+
+fn natural(line: &[u8], at: usize) -> Argument {
+    let w = words::next(line, at);
+    if w.from == w.to {
+        return Argument::End;
+    }
+    match numbers::to_natural(words::part(line, w.from, w.to)) {
+        Natural::Is(v) => Argument::Is(v, w.to),
+        Natural::Bad => Argument::Not(Fault::NoNumber(w)),
     }
 }
 
-// The numbers of a line that should have the given form. Where the form has no words in brackets, nothing may follow them.
-pub fn all(form: &[u8], line: &[u8]) -> Numbers {
-    let wanted = forms::wanted(form);
-    let read = first(wanted.count, line);
-    let fault = read.fault;
-    if let Fault::None = fault {
-        if !wanted.more {
-            let x = read.x;
-            return Numbers {
-                fault: extra(line, read.rest),
-                rest: read.rest,
-                x,
-            };
-        }
-    }
-    read
-}
-
-// So many numbers of a line, at most five.
-fn first(count: usize, line: &[u8]) -> Numbers {
-    let mut at = words::next(line, 0).to;
+// So many numbers of a line at or after `from`, at most five.
+fn first(count: usize, line: &[u8], from: usize) -> Numbers {
+    let mut at = from;
     let mut x = [0u32; 5];
     for i in 0..5 {
         if i >= count {
@@ -79,8 +136,8 @@ fn first(count: usize, line: &[u8]) -> Numbers {
                 x[i] = v;
                 at = rest;
             }
-            Argument::End => return wrong(Fault::Missing),
-            Argument::Not(fault) => return wrong(fault),
+            Argument::End => return none(Fault::Missing, at),
+            Argument::Not(fault) => return none(fault, at),
         }
     }
     Numbers {

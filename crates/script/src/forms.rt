@@ -11,18 +11,29 @@ pub struct Form {
 
 // The row of the call with this name.
 pub fn named(forms: &[u8], name: &[u8]) -> Form {
+    walked(forms, name, 0)
+}
+
+// Row number `number` of a text with a row in each line.
+pub fn row(text: &[u8], number: usize) -> &[u8] {
+    let found = walked(text, b"", number);
+    words::part(text, found.from, found.to)
+}
+
+// The first row that has this number or begins with this word.
+fn walked(text: &[u8], name: &[u8], number: usize) -> Form {
     let mut at: usize = 0;
     let mut row: usize = 0;
-    while at < forms.len() {
-        let to = lines::line_end(forms, at, forms.len());
+    while at < text.len() {
+        let to = lines::line_end(text, at, text.len());
         if to < at {
             break;
         }
-        if to >= forms.len() {
+        if to >= text.len() {
             break;
         }
         row = std::num::wrapping_add_usize(row, 1);
-        if begins_with(words::part(forms, at, to), name) {
+        if row == number || begins_with(words::part(text, at, to), name) {
             return Form { row, from: at, to };
         }
         at = to + 1;
@@ -34,9 +45,13 @@ pub fn named(forms: &[u8], name: &[u8]) -> Form {
     }
 }
 
-fn begins_with(form: &[u8], name: &[u8]) -> bool {
-    let w = words::next(form, 0);
-    words::same(words::part(form, w.from, w.to), name)
+// No row begins with no word, also where its first word is a comment.
+fn begins_with(row: &[u8], name: &[u8]) -> bool {
+    if name.len() == 0 {
+        return false;
+    }
+    let w = words::next(row, 0);
+    words::same(words::part(row, w.from, w.to), name)
 }
 
 // How many words a form has after its name and before any in brackets, and whether there are some in brackets.

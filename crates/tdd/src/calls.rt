@@ -1,174 +1,88 @@
-// Each call of a line. The numbers are the rows of the forms in main.rt.
-use bench::Answered;
-use bench::Bench;
+// A line from its bytes to its answer.
+use answer_text::Told;
 use bench_lines::Left;
-use codes::CellParameter;
-use recording_lines::Chips;
-use recording_lines::Done;
-use recording_lines::Readings;
-use recording_lines::State;
-use recording_lines::answered;
-use recording_lines::drawing;
-use recording_lines::reading;
-use recording_lines::recording;
-use recording_lines::sync;
+use bench_lines::State;
+use script::answer::Answer;
 use script::arguments;
-use script::faults;
+use script::arguments::Numbers;
 use script::faults::Fault;
-use script::forms;
-use text::answers;
+use script::memory::Memory;
+use script::rows::BRIEF;
+use script::rows::BURST_START;
+use script::rows::DRAW;
+use script::rows::FIND;
+use script::rows::FULL;
+use script::rows::SECONDARY;
 use text::answers::Answers;
-use text::words;
 
-const SET_CELL: usize = 1;
-
-const OPEN: usize = 2;
-
-const LOAD_PLAN: usize = 3;
-
-const CLOSE: usize = 4;
-
-const SET_GAIN: usize = 5;
-
-const LOAD_BITS: usize = 6;
-
-const SET_SYNC: usize = 7;
-
-const CLEAR_SYNC: usize = 8;
-
-const START: usize = 9;
-
-const DRAW: usize = 10;
-
-const RECORD: usize = 11;
-
-const ERASE: usize = 12;
-
-const SHOW: usize = 13;
-
-const READ: usize = 14;
-
-const HARDEN: usize = 15;
-
-const READ_SYNC: usize = 16;
-
-const FIND: usize = 17;
-
-const HELP: usize = 18;
-
-// What a call of the bench left, in the state.
-fn after(s: State, left: Left) -> Done {
-    let bench = left.bench;
-    let fault = left.fault;
-    let state = State {
-        bench,
-        chips: s.chips,
-        readings: s.readings,
-    };
-    Done {
-        state,
-        n: left.n,
-        fault,
+// A call that leaves the bench alone; HELP is the row that is left.
+fn beside(row: usize, x: [u32; 5], line: &[u8], s: State, m: &mut Memory) -> Answer {
+    if row <= FIND {
+        return recording_lines::call(row, x, line, s.chips, s.readings, m);
     }
-}
-
-// A call that takes numbers alone. START is the row that is left: load plan and load bits do not come here, nor does row 0, which `answer`
-// tells as unknown, or a row past START.
-fn numbered(row: usize, x: [u32; 5], b: Bench) -> Answered {
-    let first = x[0];
-    let second = x[1];
-    let third = x[2];
+    if row <= BURST_START {
+        return code_lines::call(row, x);
+    }
+    if row <= SECONDARY {
+        return code_lines::whole::code(row, x, m);
+    }
     match row {
-        SET_CELL => b.set_cell(CellParameter(first), second),
-        OPEN => b.open(first, second, third),
-        CLOSE => b.close(first, second),
-        SET_GAIN => b.set_gain(first, second, third),
-        SET_SYNC => b.set_sync(first, second, third, x[3], x[4]),
-        CLEAR_SYNC => b.clear_sync(),
-        _ => b.start(),
+        BRIEF => Answer::Brief(true),
+        FULL => Answer::Brief(false),
+        _ => Answer::Help,
     }
 }
 
-// A call that changes settings or starts a slot. The answers are handed on once for all calls that take numbers alone.
-fn bench_call(
-    row: usize,
-    x: [u32; 5],
-    line: &[u8],
-    rest: usize,
-    s: State,
-    out: &mut Answers,
-    n: usize,
-) -> Done {
-    let b = s.bench;
-    if START < row {
-        return recording_lines::no_call(s, n, Fault::Unknown(words::next(line, 0)));
+// The state after such a call, by what it is answered.
+fn after(s: State, a: Answer) -> State {
+    let mut next = s;
+    match a {
+        Answer::Recorded(count) => {
+            next.chips = std::num::wrapping_add_usize(s.chips, count);
+        }
+        Answer::Erased => {
+            next.chips = 0;
+        }
+        Answer::Readings(count) => {
+            next.readings = count;
+        }
+        Answer::Brief(brief) => {
+            next.brief = brief;
+        }
+        _ => {}
     }
-    let left = match row {
-        LOAD_PLAN => bench_lines::load_plan(b, line, rest, out, n),
-        LOAD_BITS => bench_lines::load_bits(b, x[0], x[1], line, rest, out, n),
-        _ => bench_lines::told(numbered(row, x, b), out, n),
-    };
-    after(s, left)
+    next
 }
 
-// A call whose numbers are x; what follows them begins at `rest`.
-fn call(
-    row: usize,
-    x: [u32; 5],
-    line: &[u8],
-    rest: usize,
-    s: State,
-    out: &mut Answers,
-    n: usize,
-    re: &mut Chips,
-    im: &mut Chips,
-    yre: &mut Readings,
-    yim: &mut Readings,
-) -> Done {
-    match row {
-        DRAW => drawing::draw(s, x[0], line, rest, out, n, re, im),
-        ERASE => recording::erase(s, out, n),
-        SHOW => recording::show(s, x[0], x[1], out, n, re, im),
-        READ => reading::read(s, x, out, n, re, im, yre, yim),
-        HARDEN => reading::harden(s, out, n, yre, yim),
-        READ_SYNC => sync::read_sync(s, x[0], x[1], x[2], out, n, re, im),
-        FIND => sync::find(s, x[0], x[1], out, n, re, im),
-        _ => bench_call(row, x, line, rest, s, out, n),
-    }
-}
-
-// The call that has this form.
-fn formed(
-    row: usize,
-    form: &[u8],
-    forms: &[u8],
-    line: &[u8],
-    s: State,
-    out: &mut Answers,
-    n: usize,
-    re: &mut Chips,
-    im: &mut Chips,
-    yre: &mut Readings,
-    yim: &mut Readings,
-) -> Done {
-    if row == RECORD {
-        return recording::record(s, line, out, n, re, im);
-    }
-    let numbers = arguments::all(form, line);
+// What a line with these numbers leaves; row 0 is that of a line with no word.
+fn called(row: usize, numbers: Numbers, line: &[u8], s: State, m: &mut Memory) -> Left {
     let fault = numbers.fault;
+    let x = numbers.x;
     match fault {
         Fault::None => {
-            if row == HELP {
-                return answered(s, answers::text(out, n, forms));
+            if row == 0 {
+                return Left {
+                    state: s,
+                    answer: Answer::Nothing,
+                };
             }
-            let x = numbers.x;
-            call(row, x, line, numbers.rest, s, out, n, re, im, yre, yim)
+            if row <= DRAW {
+                return bench_lines::call(row, x, line, numbers.rest, s, m);
+            }
+            let answer = beside(row, x, line, s, m);
+            Left {
+                state: after(s, answer),
+                answer,
+            }
         }
-        _ => recording_lines::no_call(s, n, fault),
+        _ => Left {
+            state: s,
+            answer: Answer::Wrong(fault),
+        },
     }
 }
 
-// What a line leaves.
+// The state that a line leaves, and how many bytes of the answers are used after it.
 pub struct Next {
     pub state: State,
     pub n: usize,
@@ -182,29 +96,22 @@ pub fn answer(
     s: State,
     out: &mut Answers,
     n: usize,
-    re: &mut Chips,
-    im: &mut Chips,
-    yre: &mut Readings,
-    yim: &mut Readings,
+    m: &mut Memory,
 ) -> Next {
-    let w = words::next(line, 0);
-    if w.from == w.to {
-        return Next { state: s, n };
-    }
-    let f = forms::named(forms, words::part(line, w.from, w.to));
-    let form = words::part(forms, f.from, f.to);
-    if f.row == 0 {
-        let m = faults::tell(out, n, Fault::Unknown(w), line, at, form, s.chips);
-        return Next { state: s, n: m };
-    }
-    let done = formed(f.row, form, forms, line, s, out, n, re, im, yre, yim);
-    let state = done.state;
-    let fault = done.fault;
-    match fault {
-        Fault::None => Next { state, n: done.n },
-        _ => {
-            let m = faults::tell(out, done.n, fault, line, at, form, s.chips);
-            Next { state, n: m }
-        }
+    let parsed = arguments::parsed(forms, line);
+    let form = parsed.form;
+    let numbers = parsed.numbers;
+    let left = called(form.row, numbers, line, s, m);
+    let told = Told {
+        at,
+        form,
+        chips: s.chips,
+        brief: s.brief,
+    };
+    let state = left.state;
+    let a = left.answer;
+    Next {
+        state,
+        n: answer_text::print(out, n, a, told, forms, line, m),
     }
 }

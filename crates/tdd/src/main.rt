@@ -4,7 +4,7 @@ use scripts::Ending;
 mod calls;
 mod scripts;
 
-// The forms of the calls, as `help` prints them; the numbers of their rows are in calls.rt.
+// The forms of the calls, as `help` prints them; the numbers of their rows are in script/src/rows.rt.
 fn main() {
     program(
         b"set-cell P T                    # cell parameter P, 0 to 127, burst type T, 1 to 3; closes every code, clears sync
@@ -18,12 +18,28 @@ clear-sync                      # no sync burst
 start                           # a slot of 2560 chips with the settings as they are now
 draw N [M]                      # the next N chips of the slot, to the end of the recording (N entries for re, M for im)
 record RE IM [RE IM]...         # chips of your own, to the end of the recording
+silence COUNT                   # COUNT chips of 0, to the end of the recording
+noise FROM COUNT SEED SIZE      # adds noise from -SIZE to SIZE to COUNT chips of the recording from chip FROM on
 erase                           # empties the recording
 show FROM COUNT                 # COUNT chips of the recording from chip FROM on, the first chip is 0
 read P Q K FROM COUNT           # what code (Q, K) reads in these chips with cell parameter P
 harden                          # the bits of what the last accepted read gave
 read-sync CASE FROM COUNT       # what the sync burst in these 256 chips was sent for
 find FROM COUNT                 # where in these chips the primary sync code is strongest, and how strong
+element Q K CHIP                # chip CHIP, from 0, of code (Q, K)
+related Q K Q K                 # whether the two codes are equal or one lies above the other
+code-group P                    # the code group of cell parameter P
+scrambling-chip P CHIP          # chip CHIP, 0 to 15, of scrambling code P
+primary-chip CHIP               # chip CHIP, 0 to 255, of the primary sync code
+secondary-chip I CHIP           # chip CHIP, 0 to 255, of secondary sync code I
+allocation CASE G FRAME HALF    # the secondary sync codes of code group G, 0 to 31, with their units
+burst-start G                   # where in the slot the sync burst of code group G begins
+code Q K                        # all chips of code (Q, K)
+scrambling P                    # all 16 chips of scrambling code P
+primary                         # all 256 chips of the primary sync code
+secondary I                     # all 256 chips of secondary sync code I: 0, 1, 3, 4, 5, 6, 8, 10, 12, 13, 14 or 15
+brief                           # from here on long lines by their count, first values and checksum
+full                            # from here on long lines in full again
 help                            # this list
 # In brackets: may be left out. Before ...: as often as you like. A script has neither brackets nor dots.
 ",

@@ -1,14 +1,14 @@
 // A script from its first line to its last.
 use crate::calls;
 use crate::calls::Next;
+use answer_text::Told;
 use bench::Bench;
-use recording_lines::Chips;
-use recording_lines::READINGS;
-use recording_lines::ROOM;
-use recording_lines::Readings;
-use recording_lines::State;
-use script::faults;
+use bench_lines::State;
+use script::answer::Answer;
 use script::faults::Fault;
+use script::forms::Form;
+use script::memory;
+use script::memory::Memory;
 use text::answers;
 use text::answers::Answers;
 use text::answers::FAILED;
@@ -34,31 +34,35 @@ fn answer_line(
     s: State,
     out: &mut Answers,
     n: usize,
-    re: &mut Chips,
-    im: &mut Chips,
-    yre: &mut Readings,
-    yim: &mut Readings,
+    m: &mut Memory,
 ) -> Next {
-    let line = words::part(buf, from, to);
-    calls::answer(forms, line, at, s, out, n, re, im, yre, yim)
+    calls::answer(forms, words::part(buf, from, to), at, s, out, n, m)
+}
+
+// Answers line number `at`, which is too long.
+fn answer_long(at: u64, out: &mut Answers, n: usize, m: &Memory) -> usize {
+    let form = Form {
+        row: 0,
+        from: 0,
+        to: 0,
+    };
+    let told = Told {
+        at,
+        form,
+        chips: 0,
+        brief: false,
+    };
+    answer_text::print(out, n, Answer::Wrong(Fault::Long), told, b"", b"", m)
 }
 
 // Answers each line of the input. A proved loop has to end, and nothing says that the input does, so the loop counts its turns
 // down, from a number that no run uses up.
-fn run(
-    fd: i32,
-    forms: &[u8],
-    buf: &mut Buffer,
-    out: &mut Answers,
-    re: &mut Chips,
-    im: &mut Chips,
-    yre: &mut Readings,
-    yim: &mut Readings,
-) -> Ending {
+fn run(fd: i32, forms: &[u8], buf: &mut Buffer, out: &mut Answers, m: &mut Memory) -> Ending {
     let mut state = State {
         bench: Bench::fresh(),
         chips: 0,
         readings: 0,
+        brief: false,
     };
     let mut input = lines::first(fd);
     let mut n: usize = 0;
@@ -69,14 +73,14 @@ fn run(
         match lines::advance(buf, input) {
             Step::Line(from, to, next) => {
                 input = next;
-                let done = answer_line(forms, buf, from, to, at, state, out, n, re, im, yre, yim);
+                let done = answer_line(forms, buf, from, to, at, state, out, n, m);
                 state = done.state;
                 n = done.n;
                 at = std::num::wrapping_add_u64(at, 1);
             }
             Step::Long(next) => {
                 input = next;
-                n = faults::tell(out, n, Fault::Long, b"", at, b"", 0);
+                n = answer_long(at, out, n, m);
                 at = std::num::wrapping_add_u64(at, 1);
             }
             Step::Short(next) => {
@@ -101,22 +105,10 @@ fn run(
     Ending::Whole
 }
 
-// Answers a script with buffers and a recording of its own; a run takes some 800 KB of the stack.
+// Answers a script with buffers and a memory of its own; a run takes some 800 KB of the stack.
 pub fn answer_all(fd: i32, forms: &[u8]) -> Ending {
     let mut buf = [0u8; lines::ROOM];
     let mut out = [0u8; answers::ROOM];
-    let mut re = [0i32; ROOM];
-    let mut im = [0i32; ROOM];
-    let mut yre = [0i32; READINGS];
-    let mut yim = [0i32; READINGS];
-    run(
-        fd,
-        forms,
-        &mut buf,
-        &mut out,
-        &mut re,
-        &mut im,
-        &mut yre,
-        &mut yim,
-    )
+    let mut m = [0i32; memory::SIZE];
+    run(fd, forms, &mut buf, &mut out, &mut m)
 }

@@ -19,4 +19,5 @@ mod read;
 mod read_sync;
 mod reference;
 mod shrink;
+mod table;
 mod tracker;

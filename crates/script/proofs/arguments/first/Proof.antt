@@ -7,4 +7,4 @@ use Rattle.script.proofs.arguments.first.Tie as tie
 pub first-spec : {M : Type 1} → statement M
 first-spec =
     tie.close
-    (tie.spec (λ _ _ _ _ _ _ _ _. Unit {0}) (λ _ _ _ _ _ _ _ i. 5 - i) (λ c κs. search needs) (λ c. search needs) (λ c κs. search needs) (λ c. search needs) (λ c. search needs) (λ c. search needs) (λ c. search needs) (λ c κs. search needs) (λ c. search needs) (λ c. search needs) (λ c κs. search needs) (λ c. search needs) (λ c. search needs) (λ c. search needs) (λ c. search needs) (λ c. search needs) (λ c. search needs))
+    (tie.spec (λ _ _ _ _ _ _ _ _ _. Unit {0}) (λ _ _ _ _ _ _ _ _ i. 5 - i) (λ c. search needs) (λ c κs. search needs) (λ c. search needs) (λ c. search needs) (λ c. search needs) (λ c. search needs) (λ c κs. search needs) (λ c. search needs) (λ c. search needs) (λ c κs. search needs) (λ c. search needs) (λ c. search needs) (λ c. search needs) (λ c. search needs) (λ c. search needs) (λ c. search needs))

@@ -1,0 +1,11 @@
+-- `checksum` is safe, and ends: with each turn fewer values are left. Assumes nothing.
+use Prim.Native.Nat.{_-_}
+use lib.ListN.{length}
+use borrow.Author.Needs.{needs}
+use Rattle.answer_text.proofs.lists.checksum.Statement.{statement}
+use Rattle.answer_text.proofs.lists.checksum.Tie as tie
+
+pub checksum-spec : {M : Type 1} → statement M
+checksum-spec =
+    tie.close
+    (tie.spec (λ _ _ _ _ _ _ _. Unit {0}) (λ re _ _ _ _ _ i. length re - i) (λ c. search needs) (λ c. search needs) (λ c. search needs) (λ c κs. search needs) (λ c. search needs) (λ c. search needs) (λ c κs. search needs) (λ c. search needs) (λ c. search needs) (λ c. search needs) (λ c. search needs))

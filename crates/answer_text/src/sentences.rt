@@ -1,0 +1,148 @@
+// The answers that are one sentence: which one, and the numbers in it.
+use script::answer::Answer;
+use script::faults::Fault;
+use script::memory::CHIPS;
+use text::complement;
+use text::words::Word;
+
+// The rows of the sentences in filled.rt, from 1 on.
+const OK: usize = 1;
+
+const COUNTED: usize = 2;
+
+const REFUSED: usize = 3;
+
+const REFUSED_AT: usize = 4;
+
+const YES: usize = 5;
+
+const NO: usize = 6;
+
+const NUMBER: usize = 7;
+
+const SIGN: usize = 8;
+
+const CHIP: usize = 9;
+
+const THREE: usize = 10;
+
+const BURST: usize = 11;
+
+const PEAK: usize = 12;
+
+const UNKNOWN: usize = 13;
+
+const MISSING: usize = 14;
+
+const EXTRA: usize = 15;
+
+const NO_NUMBER: usize = 16;
+
+const NO_COMPONENT: usize = 17;
+
+const NO_RECORD: usize = 18;
+
+const NO_BITS: usize = 19;
+
+const LOUD: usize = 20;
+
+const OUTSIDE: usize = 21;
+
+const FULL: usize = 22;
+
+const NO_READINGS: usize = 23;
+
+const PAST: usize = 24;
+
+const LONG: usize = 25;
+
+// A row, its numbers, and the word of the line that it quotes.
+pub struct Sentence {
+    pub row: usize,
+    pub x: [u64; 6],
+    pub word: Word,
+}
+
+fn plain(row: usize, x: [u64; 6]) -> Sentence {
+    Sentence {
+        row,
+        x,
+        word: Word { from: 0, to: 0 },
+    }
+}
+
+// The answer of line number `at`; the recording has so many chips. OK is the sentence that is left.
+pub fn of_answer(a: Answer, at: u64, chips: usize) -> Sentence {
+    match a {
+        Answer::Counted(count) => plain(COUNTED, [count as u64, 0, 0, 0, 0, 0]),
+        Answer::Refused(number) => plain(REFUSED, [number as u64, 0, 0, 0, 0, 0]),
+        Answer::RefusedAt(number, place) => {
+            plain(REFUSED_AT, [number as u64, place as u64, 0, 0, 0, 0])
+        }
+        Answer::Is(yes) => plain(if yes { YES } else { NO }, [0; 6]),
+        Answer::Number(x) => plain(NUMBER, [x as u64, 0, 0, 0, 0, 0]),
+        Answer::Sign(x) => plain(SIGN, [complement::word(x) as u64, 0, 0, 0, 0, 0]),
+        Answer::Chip(re, im) => plain(
+            CHIP,
+            [
+                complement::word(re) as u64,
+                complement::word(im) as u64,
+                0,
+                0,
+                0,
+                0,
+            ],
+        ),
+        Answer::Three(u, first, v, second, w, marker) => plain(
+            THREE,
+            [
+                u as u64,
+                first as u64,
+                v as u64,
+                second as u64,
+                w as u64,
+                marker as u64,
+            ],
+        ),
+        Answer::Burst(group, frame, half) => plain(
+            BURST,
+            [group as u64, frame as u64, half as u64, 0, 0, 0],
+        ),
+        Answer::Peak(start, size) => plain(PEAK, [start as u64, size, 0, 0, 0, 0]),
+        Answer::Wrong(fault) => of_fault(fault, at, chips),
+        _ => plain(OK, [0; 6]),
+    }
+}
+
+// What is wrong with a line. MISSING is the sentence that is left.
+fn of_fault(fault: Fault, at: u64, chips: usize) -> Sentence {
+    let has = chips as u64;
+    match fault {
+        Fault::Unknown(w) => quoting(UNKNOWN, at, w),
+        Fault::Extra(w) => quoting(EXTRA, at, w),
+        Fault::NoNumber(w) => quoting(NO_NUMBER, at, w),
+        Fault::NoComponent(w) => quoting(NO_COMPONENT, at, w),
+        Fault::NoRecord(w) => quoting(NO_RECORD, at, w),
+        Fault::NoBits(w) => quoting(NO_BITS, at, w),
+        Fault::Loud(size) => plain(LOUD, [at, size as u64, 0, 0, 0, 0]),
+        Fault::Outside(from, count) => {
+            plain(OUTSIDE, [at, count as u64, from as u64, has, has, 0])
+        }
+        Fault::Full(count) => {
+            let left = std::num::wrapping_sub_usize(CHIPS, chips);
+            plain(FULL, [at, count as u64, has, left as u64, 0, 0])
+        }
+        Fault::NoReadings => plain(NO_READINGS, [at, 0, 0, 0, 0, 0]),
+        Fault::Past(chip) => plain(PAST, [at, chip as u64, 0, 0, 0, 0]),
+        Fault::Long => plain(LONG, [at, 0, 0, 0, 0, 0]),
+        _ => plain(MISSING, [at, 0, 0, 0, 0, 0]),
+    }
+}
+
+fn quoting(row: usize, at: u64, word: Word) -> Sentence {
+    Sentence {
+        row,
+        x: [at, 0, 0, 0, 0, 0],
+        word,
+    }
+}

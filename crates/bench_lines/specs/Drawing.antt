@@ -1,0 +1,29 @@
+-- What a draw makes of the state (docs/TDD.md), and what its line is answered.
+use Prim.Native.Nat.{ℕ, _+_}
+use mathlib.Core.Bool.{cond}
+use Rattle.codes.specs.Refusals.{Answer, refused, gives}
+use Rattle.bench.specs.declared.Bench.{Bench}
+use Rattle.bench.specs.BenchCalls.{AcceptedDraw}
+use Rattle.script.specs.declared.answer.Answer as line
+use Rattle.script.specs.declared.answer.Answer.the-variants.{Counted, Refused, Wrong}
+use Rattle.script.specs.declared.faults.Fault.the-variants.{Full}
+use Rattle.recording_lines.specs.Room.{fit}
+use Rattle.bench_lines.specs.declared.State.{State}
+
+-- "puts the chips at the end of the recording"; where they do not fit, nothing changes, and the bench stays as it was before the draw
+abbrev pub kept : State → Bench → ℕ → State
+kept s b count = cond (fit (s .chips) count) (record { bench = b; chips = s .chips + count; readings = s .readings; brief = s .brief }) s
+
+-- a refused draw changes nothing, however full the recording is
+abbrev pub after-draw : State → Answer AcceptedDraw → State
+after-draw s (refused k) = s
+after-draw s (gives d) = kept s (d .bench) (d .count)
+
+-- "`ok COUNT`"; a draw whose chips do not fit is no call
+abbrev pub answer-of-count : State → ℕ → line.Answer
+answer-of-count s count = cond (fit (s .chips) count) (Counted count) (Wrong (Full count))
+
+-- "or `refused N`"
+abbrev pub draw-answer : State → Answer AcceptedDraw → line.Answer
+draw-answer s (refused k) = Refused k
+draw-answer s (gives d) = answer-of-count s (d .count)
