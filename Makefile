@@ -1,10 +1,7 @@
 # make test: every check of the repository; its last line is rt ci's verdict.
 # make libraries: prove the libraries for hosts and build them into lib/, which stays when target/ goes.
 # make benchmark: build what it needs and print the two tables of docs/PERFORMANCE.md.
-# make values: prove and build the code rules, and print every value of them.
-# make vectors: prove and build the analyser, and print its answers to the test vectors.
-# make slots: prove and build the bench, and print its answers to a script of calls.
-.PHONY: test libraries benchmark values vectors slots
+.PHONY: test libraries benchmark
 .NOTPARALLEL:
 
 test:
@@ -20,15 +17,3 @@ lib/lib%.a: crates.txt $(shell find crates -path '*/src/*' -o -path '*/specs/*' 
 
 benchmark: libraries lib/libtdd_parts.a
 	@cd host && cargo bench --quiet --bench benchmark
-
-values:
-	@rt check code_values >&2
-	@target/bin/code_values
-
-vectors:
-	@rt check analyser_values >&2
-	@target/bin/analyser_values
-
-slots:
-	@rt check bench_values >&2
-	@target/bin/bench_values <crates/bench_values/stdin

@@ -1,15 +1,17 @@
 // The sentences of the answers, and how one is filled with numbers and words.
+use crate::Told;
 use crate::sentences::Sentence;
 use script::forms;
+use script::memory::CHIPS;
 use text::answers;
 use text::answers::Answers;
 use text::complement;
 use text::words;
-use text::words::Word;
 
-// Writes the sentence s. In a row # is the next number, ~ the next number with its sign, * the next number as a power of j, ' the word of the line that
-// is wrong, @ the form of the line's call. The numbers of the rows are in sentences.rt.
-pub fn sentence(out: &mut Answers, n: usize, s: Sentence, form: &[u8], line: &[u8]) -> usize {
+// Writes the sentence s. In a row # is its next number, ~ its next number with the sign, * its next number as a sync code with its unit, ! the number of the line,
+// & how many chips the recording has and ^ how many more it takes, ' the word of the line that is wrong, @ the form of its call. The numbers of the rows
+// are in sentences.rt.
+pub fn print(out: &mut Answers, n: usize, s: Sentence, t: Told, form: &[u8], line: &[u8]) -> usize {
     let row = forms::row(
         b"ok
 ok #
@@ -20,56 +22,58 @@ no
 #
 ~
 ~,~
-*C# *C# *C#
+* * *
 ok group # frame # half #
 ok at # size #
-line #: ' is no call; right is: one of those that help lists
-line #: a word is missing; right is: @
-line #: ' is a word too many; right is: @
-line #: ' is no whole number from 0 to 4294967295; right is: @
-line #: ' is no whole number from -2147483648 to 2147483647; right is: @
-line #: ' is no record of three whole numbers from 0 to 4294967295; right is: @
-line #: ' is no word of digits; right is: @
-line #: a noise of size # is too large; right is: at most 100000
-line #: # chips from chip # on are not in the recording, which has #; right is: FROM + COUNT at most #
-line #: # chips do not fit into the recording, which has # of 38400; right is: at most #, or erase first
-line #: there are no readings to harden; right is: a read that is accepted first
-line #: the noise takes chip # of the recording past 32 bits; right is: sums from -2147483648 to 2147483647
-line #: the line has more than 65536 bytes; right is: at most 65536
+line !: ' is no call; right is: one of those that help lists
+line !: a word is missing; right is: @
+line !: ' is a word too many; right is: @
+line !: ' is no whole number from 0 to 4294967295; right is: @
+line !: ' is no whole number from -2147483648 to 2147483647; right is: @
+line !: ' is no record of three whole numbers from 0 to 4294967295; right is: @
+line !: ' is no word of digits; right is: @
+line !: a noise of size # is too large; right is: at most 100000
+line !: # chips from chip # on are not in the recording, which has &; right is: FROM + COUNT at most &
+line !: # chips do not fit into the recording, which has & of 38400; right is: at most ^, or erase first
+line !: there are no readings to harden; right is: a read that is accepted first
+line !: the noise takes chip # of the recording past 32 bits; right is: sums from -2147483648 to 2147483647
+line !: the line has more than 65536 bytes; right is: at most 65536
 ",
         s.row,
     );
     let w = s.word;
-    let x = s.x;
-    let m = filled(out, n, row, x, words::part(line, w.from, w.to), form);
+    let m = filled(out, n, row, s, t, words::part(line, w.from, w.to), form);
     answers::byte(out, m, b'\n')
 }
 
 // The row with its numbers and words.
-fn filled(out: &mut Answers, n: usize, row: &[u8], x: [u64; 6], word: &[u8], form: &[u8]) -> usize {
+fn filled(
+    out: &mut Answers,
+    n: usize,
+    row: &[u8],
+    s: Sentence,
+    t: Told,
+    word: &[u8],
+    form: &[u8],
+) -> usize {
     let mut m = n;
     let mut at: usize = 0;
     for i in 0..row.len() {
         let b = row[i];
-        match b {
-            b'\'' => {
-                m = quoted(out, m, word);
-            }
-            b'@' => {
-                m = answers::text(out, m, words::part(form, 0, forms::end(form)));
-            }
-            _ => {
-                m = item(out, m, b, entry(x, at));
-            }
-        }
-        if takes_number(b) {
+        m = match b {
+            b'\'' => quoted(out, m, word),
+            b'@' => answers::text(out, m, words::part(form, 0, forms::end(form))),
+            _ => item(out, m, b, number(b, at, s, t)),
+        };
+        if is_next(b) {
             at = std::num::wrapping_add_usize(at, 1);
         }
     }
     m
 }
 
-fn takes_number(b: u8) -> bool {
+// Whether a byte of a row stands for the sentence's next number.
+fn is_next(b: u8) -> bool {
     match b {
         b'#' => true,
         b'~' => true,
@@ -78,28 +82,42 @@ fn takes_number(b: u8) -> bool {
     }
 }
 
-fn entry(x: [u64; 6], at: usize) -> u64 {
-    if at < 6 { x[at] } else { 0 }
+// The number that a byte of a row stands for; number `at` of the sentence is the next one.
+fn number(b: u8, at: usize, s: Sentence, t: Told) -> u64 {
+    match b {
+        b'!' => t.at,
+        b'&' => t.chips as u64,
+        b'^' => std::num::wrapping_sub_usize(CHIPS, t.chips) as u64,
+        _ => match at {
+            0 => s.x,
+            1 => s.y,
+            _ => s.z,
+        },
+    }
 }
 
-// A byte of a row; where it stands for a number, that one.
+// A byte of a row; where it stands for the number x, that.
 fn item(out: &mut Answers, n: usize, b: u8, x: u64) -> usize {
     match b {
-        b'#' => answers::number(out, n, x),
         b'~' => answers::component(out, n, complement::signed((x % 4294967296) as u32)),
-        b'*' => power(out, n, x),
+        b'*' => sent(out, n, x),
+        b'#' => answers::number(out, n, x),
+        b'!' => answers::number(out, n, x),
+        b'&' => answers::number(out, n, x),
+        b'^' => answers::number(out, n, x),
         _ => answers::byte(out, n, b),
     }
 }
 
-// The power of j with this exponent, as it stands before a code.
-fn power(out: &mut Answers, n: usize, x: u64) -> usize {
-    match x {
+// A sync code with its unit, as in -jC13: four times its number, and the unit's exponent of j.
+fn sent(out: &mut Answers, n: usize, x: u64) -> usize {
+    let m = match x % 4 {
         1 => answers::text(out, n, b"j"),
         2 => answers::text(out, n, b"-"),
         3 => answers::text(out, n, b"-j"),
         _ => n,
-    }
+    };
+    answers::counted(out, m, b"C", x / 4)
 }
 
 // The word between quotes, its first 32 bytes.

@@ -1,10 +1,8 @@
 // A line's answer as text.
+use lists::List;
 use script::answer::Answer;
 use script::forms::Form;
-use script::memory;
-use script::memory::LINE;
 use script::memory::Memory;
-use script::memory::READINGS;
 use text::answers;
 use text::answers::Answers;
 use text::words;
@@ -34,20 +32,14 @@ pub fn print(
     match a {
         Answer::Nothing => n,
         Answer::Help => answers::text(out, n, forms),
-        Answer::Chips(at, count) => lists::values(out, n, m, at, count, t.brief),
-        Answer::Readings(count) => {
-            let k = lists::counted(out, n, count);
-            lists::values(out, k, m, READINGS, count, t.brief)
-        }
-        Answer::Bits(count) => {
-            let k = lists::counted(out, n, count);
-            lists::bits(out, k, memory::part(m, LINE, count), t.brief)
-        }
-        Answer::Elements(count) => lists::elements(out, n, memory::part(m, LINE, count)),
         _ => {
-            let s = sentences::of_answer(a, t.at, t.chips);
+            let list = lists::of_answer(a);
+            if list.kind != lists::NONE {
+                return lists::print(out, n, list, m, t.brief);
+            }
+            let s = sentences::of_answer(a);
             let form = t.form;
-            filled::sentence(out, n, s, words::part(forms, form.from, form.to), line)
+            filled::print(out, n, s, t, words::part(forms, form.from, form.to), line)
         }
     }
 }

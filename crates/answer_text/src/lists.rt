@@ -1,110 +1,116 @@
 // Lines of chips, readings, elements and bits.
+use script::answer::Answer;
 use script::memory;
+use script::memory::LINE;
 use script::memory::Memory;
+use script::memory::READINGS;
 use text::answers;
 use text::answers::Answers;
 use text::complement;
 
-// How many values, and how many bits, are told in brief.
-const VALUES: usize = 4;
+pub const NONE: usize = 0;
 
-const BITS: usize = 16;
+const CHIPS: usize = 1;
 
-// A line with the count of readings or bits, which stands before the line of them.
-pub fn counted(out: &mut Answers, n: usize, count: usize) -> usize {
-    let k = answers::counted(out, n, b"ok ", count as u64);
-    answers::byte(out, k, b'\n')
+const ELEMENTS: usize = 2;
+
+// Before a line of these two stands a line with their count.
+const READ: usize = 3;
+
+const BITS: usize = 4;
+
+// `count` values of a kind, which stand in the memory from `at` on.
+pub struct List {
+    pub kind: usize,
+    pub at: usize,
+    pub count: usize,
 }
 
-// A line of `count` values, which stand in the memory from `at` on.
-pub fn values(
-    out: &mut Answers,
-    n: usize,
-    m: &Memory,
-    at: usize,
-    count: usize,
-    brief: bool,
-) -> usize {
-    let re = memory::part(m, at, count);
-    let im = memory::im_part(m, at, count);
-    if brief {
-        let k = head(out, n, count);
-        let j = row(out, k, re, im, VALUES);
-        return ended(out, j, count, checksum(re, im));
+// The list that an answer is, or NONE.
+pub fn of_answer(a: Answer) -> List {
+    match a {
+        Answer::Chips(at, count) => List {
+            kind: CHIPS,
+            at,
+            count,
+        },
+        Answer::Elements(count) => List {
+            kind: ELEMENTS,
+            at: LINE,
+            count,
+        },
+        Answer::Readings(count) => List {
+            kind: READ,
+            at: READINGS,
+            count,
+        },
+        Answer::Bits(count) => List {
+            kind: BITS,
+            at: LINE,
+            count,
+        },
+        _ => List {
+            kind: NONE,
+            at: 0,
+            count: 0,
+        },
     }
-    let k = row(out, n, re, im, count);
-    answers::byte(out, k, b'\n')
 }
 
-pub fn bits(out: &mut Answers, n: usize, bits: &[i32], brief: bool) -> usize {
-    if brief {
-        let k = head(out, n, bits.len());
-        let j = digits(out, k, bits, BITS);
-        return ended(out, j, bits.len(), checksum(bits, &bits[0..0]));
-    }
-    let k = digits(out, n, bits, bits.len());
-    answers::byte(out, k, b'\n')
-}
-
-pub fn elements(out: &mut Answers, n: usize, signs: &[i32]) -> usize {
+pub fn print(out: &mut Answers, n: usize, l: List, m: &Memory, brief: bool) -> usize {
+    let re = memory::part(m, l.at, l.count);
+    let im = memory::im_part(m, l.at, if l.kind == BITS { 0 } else { l.count });
     let mut k = n;
-    for i in 0..signs.len() {
-        if i > 0 {
-            k = answers::byte(out, k, b' ');
-        }
-        k = answers::component(out, k, signs[i]);
+    if l.kind >= READ {
+        k = answers::counted(out, k, b"ok ", l.count as u64);
+        k = answers::byte(out, k, b'\n');
     }
+    if brief && l.kind != ELEMENTS {
+        return in_brief(out, k, l.kind, re, im);
+    }
+    k = row(out, k, l.kind, re, im, l.count);
     answers::byte(out, k, b'\n')
 }
 
-// The first `most` values re,im, a blank between.
-fn row(out: &mut Answers, n: usize, re: &[i32], im: &[i32], most: usize) -> usize {
+// The count, the first values and the checksum.
+fn in_brief(out: &mut Answers, n: usize, kind: usize, re: &[i32], im: &[i32]) -> usize {
+    let mut k = answers::number(out, n, re.len() as u64);
+    k = answers::text(out, k, b": ");
+    k = row(out, k, kind, re, im, if kind == BITS { 16 } else { 4 });
+    if re.len() > 0 {
+        k = answers::byte(out, k, b' ');
+    }
+    k = answers::counted(out, k, b"checksum ", checksum(re, im) as u64);
+    answers::byte(out, k, b'\n')
+}
+
+// The first `most` values, a blank between, but not between bits.
+fn row(out: &mut Answers, n: usize, kind: usize, re: &[i32], im: &[i32], most: usize) -> usize {
     let mut k = n;
     for i in 0..re.len() {
-        if i >= im.len() || i >= most {
-            break;
-        }
-        if i > 0 {
-            k = answers::byte(out, k, b' ');
-        }
-        k = value(out, k, re[i], im[i]);
-    }
-    k
-}
-
-fn value(out: &mut Answers, n: usize, re: i32, im: i32) -> usize {
-    let mut k = answers::component(out, n, re);
-    k = answers::byte(out, k, b',');
-    answers::component(out, k, im)
-}
-
-// The first `most` bits.
-fn digits(out: &mut Answers, n: usize, bits: &[i32], most: usize) -> usize {
-    let mut k = n;
-    for i in 0..bits.len() {
         if i >= most {
             break;
         }
-        let b = if bits[i] == 0 { b'0' } else { b'1' };
-        k = answers::byte(out, k, b);
+        if i > 0 && kind != BITS {
+            k = answers::byte(out, k, b' ');
+        }
+        k = item(out, k, kind, re[i], entry(im, i));
     }
     k
 }
 
-// How a line in brief begins.
-fn head(out: &mut Answers, n: usize, count: usize) -> usize {
-    let k = answers::number(out, n, count as u64);
-    answers::text(out, k, b": ")
+fn entry(s: &[i32], i: usize) -> i32 {
+    if i < s.len() { s[i] } else { 0 }
 }
 
-// How it ends. With no value before it there is no second blank.
-fn ended(out: &mut Answers, n: usize, count: usize, sum: u32) -> usize {
-    let mut k = n;
-    if count > 0 {
-        k = answers::byte(out, k, b' ');
+// A value of a kind: a bit or an element is re alone.
+fn item(out: &mut Answers, n: usize, kind: usize, re: i32, im: i32) -> usize {
+    let mut k = answers::component(out, n, re);
+    if kind == CHIPS || kind == READ {
+        k = answers::byte(out, k, b',');
+        k = answers::component(out, k, im);
     }
-    k = answers::counted(out, k, b"checksum ", sum as u64);
-    answers::byte(out, k, b'\n')
+    k
 }
 
 // The checksum of values, re and im in turn; where there is no im, of re alone.

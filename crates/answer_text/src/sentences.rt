@@ -1,7 +1,6 @@
 // The answers that are one sentence: which one, and the numbers in it.
 use script::answer::Answer;
 use script::faults::Fault;
-use script::memory::CHIPS;
 use text::complement;
 use text::words::Word;
 
@@ -59,90 +58,71 @@ const LONG: usize = 25;
 // A row, its numbers, and the word of the line that it quotes.
 pub struct Sentence {
     pub row: usize,
-    pub x: [u64; 6],
+    pub x: u64,
+    pub y: u64,
+    pub z: u64,
     pub word: Word,
 }
 
-fn plain(row: usize, x: [u64; 6]) -> Sentence {
+fn plain(row: usize, x: u64, y: u64, z: u64) -> Sentence {
     Sentence {
         row,
         x,
+        y,
+        z,
         word: Word { from: 0, to: 0 },
     }
 }
 
-// The answer of line number `at`; the recording has so many chips. OK is the sentence that is left.
-pub fn of_answer(a: Answer, at: u64, chips: usize) -> Sentence {
+fn quoting(row: usize, word: Word) -> Sentence {
+    Sentence {
+        row,
+        x: 0,
+        y: 0,
+        z: 0,
+        word,
+    }
+}
+
+fn wide(x: i32) -> u64 {
+    complement::word(x) as u64
+}
+
+// OK is the sentence that is left.
+pub fn of_answer(a: Answer) -> Sentence {
     match a {
-        Answer::Counted(count) => plain(COUNTED, [count as u64, 0, 0, 0, 0, 0]),
-        Answer::Refused(number) => plain(REFUSED, [number as u64, 0, 0, 0, 0, 0]),
-        Answer::RefusedAt(number, place) => {
-            plain(REFUSED_AT, [number as u64, place as u64, 0, 0, 0, 0])
+        Answer::Counted(count) => plain(COUNTED, count as u64, 0, 0),
+        Answer::Refused(number) => plain(REFUSED, number as u64, 0, 0),
+        Answer::RefusedAt(number, place) => plain(REFUSED_AT, number as u64, place as u64, 0),
+        Answer::Is(yes) => plain(if yes { YES } else { NO }, 0, 0, 0),
+        Answer::Number(x) => plain(NUMBER, x as u64, 0, 0),
+        Answer::Sign(x) => plain(SIGN, wide(x), 0, 0),
+        Answer::Chip(re, im) => plain(CHIP, wide(re), wide(im), 0),
+        Answer::Three(first, second, marker) => {
+            plain(THREE, first as u64, second as u64, marker as u64)
         }
-        Answer::Is(yes) => plain(if yes { YES } else { NO }, [0; 6]),
-        Answer::Number(x) => plain(NUMBER, [x as u64, 0, 0, 0, 0, 0]),
-        Answer::Sign(x) => plain(SIGN, [complement::word(x) as u64, 0, 0, 0, 0, 0]),
-        Answer::Chip(re, im) => plain(
-            CHIP,
-            [
-                complement::word(re) as u64,
-                complement::word(im) as u64,
-                0,
-                0,
-                0,
-                0,
-            ],
-        ),
-        Answer::Three(u, first, v, second, w, marker) => plain(
-            THREE,
-            [
-                u as u64,
-                first as u64,
-                v as u64,
-                second as u64,
-                w as u64,
-                marker as u64,
-            ],
-        ),
-        Answer::Burst(group, frame, half) => plain(
-            BURST,
-            [group as u64, frame as u64, half as u64, 0, 0, 0],
-        ),
-        Answer::Peak(start, size) => plain(PEAK, [start as u64, size, 0, 0, 0, 0]),
-        Answer::Wrong(fault) => of_fault(fault, at, chips),
-        _ => plain(OK, [0; 6]),
+        Answer::Burst(group, frame, half) => plain(BURST, group as u64, frame as u64, half as u64),
+        Answer::Peak(start, size) => plain(PEAK, start as u64, size, 0),
+        Answer::Wrong(fault) => of_fault(fault),
+        _ => plain(OK, 0, 0, 0),
     }
 }
 
 // What is wrong with a line. MISSING is the sentence that is left.
-fn of_fault(fault: Fault, at: u64, chips: usize) -> Sentence {
-    let has = chips as u64;
+fn of_fault(fault: Fault) -> Sentence {
     match fault {
-        Fault::Unknown(w) => quoting(UNKNOWN, at, w),
-        Fault::Extra(w) => quoting(EXTRA, at, w),
-        Fault::NoNumber(w) => quoting(NO_NUMBER, at, w),
-        Fault::NoComponent(w) => quoting(NO_COMPONENT, at, w),
-        Fault::NoRecord(w) => quoting(NO_RECORD, at, w),
-        Fault::NoBits(w) => quoting(NO_BITS, at, w),
-        Fault::Loud(size) => plain(LOUD, [at, size as u64, 0, 0, 0, 0]),
-        Fault::Outside(from, count) => {
-            plain(OUTSIDE, [at, count as u64, from as u64, has, has, 0])
-        }
-        Fault::Full(count) => {
-            let left = std::num::wrapping_sub_usize(CHIPS, chips);
-            plain(FULL, [at, count as u64, has, left as u64, 0, 0])
-        }
-        Fault::NoReadings => plain(NO_READINGS, [at, 0, 0, 0, 0, 0]),
-        Fault::Past(chip) => plain(PAST, [at, chip as u64, 0, 0, 0, 0]),
-        Fault::Long => plain(LONG, [at, 0, 0, 0, 0, 0]),
-        _ => plain(MISSING, [at, 0, 0, 0, 0, 0]),
-    }
-}
-
-fn quoting(row: usize, at: u64, word: Word) -> Sentence {
-    Sentence {
-        row,
-        x: [at, 0, 0, 0, 0, 0],
-        word,
+        Fault::Unknown(w) => quoting(UNKNOWN, w),
+        Fault::Extra(w) => quoting(EXTRA, w),
+        Fault::NoNumber(w) => quoting(NO_NUMBER, w),
+        Fault::NoComponent(w) => quoting(NO_COMPONENT, w),
+        Fault::NoRecord(w) => quoting(NO_RECORD, w),
+        Fault::NoBits(w) => quoting(NO_BITS, w),
+        Fault::Loud(size) => plain(LOUD, size as u64, 0, 0),
+        Fault::Outside(from, count) => plain(OUTSIDE, count as u64, from as u64, 0),
+        Fault::Full(count) => plain(FULL, count as u64, 0, 0),
+        Fault::NoReadings => plain(NO_READINGS, 0, 0, 0),
+        Fault::Past(chip) => plain(PAST, chip as u64, 0, 0),
+        Fault::Long => plain(LONG, 0, 0, 0),
+        _ => plain(MISSING, 0, 0, 0),
     }
 }

@@ -7,7 +7,7 @@ use Rattle.bench.specs.BenchCalls.{AcceptedDraw}
 use Rattle.script.specs.declared.answer.Answer as line
 use Rattle.script.specs.declared.answer.Answer.the-variants.{Counted, Refused, Wrong}
 use Rattle.script.specs.declared.faults.Fault.the-variants.{Full}
-use Rattle.recording_lines.specs.Room.{fit}
+use Rattle.script.specs.Room.{fit}
 use Rattle.bench_lines.specs.declared.State.{State}
 
 -- "puts the chips at the end of the recording"; where they do not fit, nothing changes, and the bench stays as it was before the draw

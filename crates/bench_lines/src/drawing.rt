@@ -11,11 +11,11 @@ use crate::State;
 use bench::Bench;
 use bench::DrawAnswer;
 use bench::Drawn;
-use recording_lines::fits;
 use script::answer::Answer;
 use script::faults::Fault;
 use script::memory;
 use script::memory::Memory;
+use script::memory::fits;
 use slot::field;
 
 // As many entries as a slot has chips.

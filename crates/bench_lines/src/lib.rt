@@ -2,13 +2,18 @@
 use bench::Answered;
 use bench::Bench;
 use bench::CallAnswer;
+use bench::Channel;
 use bench::PlanAnswer;
+use bench::PlanRecords;
 use bench::Planned;
 use codes::CellParameter;
 use script::answer::Answer;
 use script::arguments;
+use script::bits;
 use script::faults::Fault;
 use script::memory::Memory;
+use script::plans;
+use script::plans::Plan;
 use script::rows::CLEAR_SYNC;
 use script::rows::CLOSE;
 use script::rows::DRAW;
@@ -20,9 +25,7 @@ use script::rows::SET_GAIN;
 use script::rows::SET_SYNC;
 use text::words;
 
-mod bits;
 mod drawing;
-mod plans;
 
 // What a line finds and leaves: the bench, how many chips the recording has, how many readings the last accepted read gave, and whether long lines are told in
 // brief.
@@ -118,15 +121,32 @@ fn load_bits(b: Bench, q: u32, k: u32, line: &[u8], at: usize) -> Told {
 }
 
 // At most 16 codes can be open together, so the first 17 records decide.
-fn load_plan(b: Bench, plan: plans::Plan) -> Told {
+fn load_plan(b: Bench, plan: Plan) -> Told {
     let fault = plan.fault;
     match fault {
-        Fault::None => {
-            let records = plan.first;
-            planned(b.load_records(records, plan.count))
-        }
+        Fault::None => planned(b.load_records(records(plan), plan.count)),
         _ => no_call(b, fault),
     }
+}
+
+fn records(plan: Plan) -> PlanRecords {
+    let q = plan.q;
+    let k = plan.k;
+    let gain = plan.gain;
+    let none = Channel {
+        q: 0,
+        k: 0,
+        gain: 0,
+    };
+    let mut all = [none; 17];
+    for i in 0..17 {
+        all[i] = Channel {
+            q: q[i],
+            k: k[i],
+            gain: gain[i],
+        };
+    }
+    PlanRecords { records: all }
 }
 
 fn planned(r: Planned) -> Told {

@@ -5,10 +5,11 @@ use codes::ChipAnswer;
 use codes::CodeGroup;
 use codes::ElementAnswer;
 use codes::GroupAnswer;
+use codes::ModulatedCode;
 use codes::RelatedAnswer;
 use codes::StartAnswer;
-use complex::Complex;
 use script::answer::Answer;
+use script::memory::Memory;
 use script::rows::ALLOCATION;
 use script::rows::BURST_START;
 use script::rows::CODE_GROUP;
@@ -17,10 +18,18 @@ use script::rows::PRIMARY_CHIP;
 use script::rows::RELATED;
 use script::rows::SCRAMBLING_CHIP;
 
-pub mod whole;
+mod whole;
 
-// One of the eight calls, by its row; SECONDARY_CHIP is the one that is left.
-pub fn call(row: usize, x: [u32; 5]) -> Answer {
+// A line of the code rules, by its row: one of the eight calls, or a whole code.
+pub fn call(row: usize, x: [u32; 5], m: &mut Memory) -> Answer {
+    if row <= BURST_START {
+        return one(row, x);
+    }
+    whole::code(row, x, m)
+}
+
+// One of the eight calls; SECONDARY_CHIP is the row that is left.
+fn one(row: usize, x: [u32; 5]) -> Answer {
     let first = x[0];
     let second = x[1];
     let third = x[2];
@@ -67,35 +76,29 @@ fn chip(a: ChipAnswer) -> Answer {
 
 fn three(a: AllocationAnswer) -> Answer {
     match a {
-        AllocationAnswer::Codes(c) => {
-            let first = c.first;
-            let second = c.second;
-            let marker = c.marker;
-            Answer::Three(
-                exponent(first.unit),
-                first.code,
-                exponent(second.unit),
-                second.code,
-                exponent(marker.unit),
-                marker.code,
-            )
-        }
+        AllocationAnswer::Codes(c) => Answer::Three(
+            with_unit(c.first),
+            with_unit(c.second),
+            with_unit(c.marker),
+        ),
         AllocationAnswer::Refused(number) => Answer::Refused(number),
     }
 }
 
-// The exponent of j that gives a unit.
-fn exponent(unit: Complex) -> u32 {
+// Four times the code's number, and the exponent of j that its unit has.
+fn with_unit(c: ModulatedCode) -> u32 {
+    let unit = c.unit;
+    let code = c.code % 16 * 4;
     if unit.im == 1 {
-        return 1;
+        return code + 1;
     }
     if unit.re == -1 {
-        return 2;
+        return code + 2;
     }
     if unit.im == -1 {
-        return 3;
+        return code + 3;
     }
-    0
+    code
 }
 
 fn start(a: StartAnswer) -> Answer {

@@ -1,5 +1,5 @@
 // Whole codes, chip by chip through the public calls.
-use crate::call;
+use crate::one;
 use script::answer::Answer;
 use script::memory;
 use script::memory::LINE;
@@ -41,9 +41,9 @@ fn chip(row: usize, x: [u32; 5], i: u32) -> Answer {
     let first = x[0];
     let second = x[1];
     match row {
-        CODE => call(ELEMENT, [first, second, i, 0, 0]),
-        SCRAMBLING => call(SCRAMBLING_CHIP, [first, i, 0, 0, 0]),
-        PRIMARY => call(PRIMARY_CHIP, [i, 0, 0, 0, 0]),
-        _ => call(SECONDARY_CHIP, [first, i, 0, 0, 0]),
+        CODE => one(ELEMENT, [first, second, i, 0, 0]),
+        SCRAMBLING => one(SCRAMBLING_CHIP, [first, i, 0, 0, 0]),
+        PRIMARY => one(PRIMARY_CHIP, [i, 0, 0, 0, 0]),
+        _ => one(SECONDARY_CHIP, [first, i, 0, 0, 0]),
     }
 }

@@ -1,12 +1,13 @@
-// The calls of a line that make a recording of chips and read it.
-ghost use mathlib.Core.Path.{_≡_};
-ghost use Rattle.recording_lines.specs.Room.{fit};
+// The calls of a line that leave the bench alone: those that make a recording of chips and read it, and beside them those of the code rules and of the program itself.
 use script::answer::Answer;
 use script::faults::Fault;
-use script::memory::CHIPS;
 use script::memory::Memory;
+use script::rows::BRIEF;
 use script::rows::ERASE;
+use script::rows::FIND;
+use script::rows::FULL;
 use script::rows::HARDEN;
+use script::rows::HELP;
 use script::rows::NOISE;
 use script::rows::READ;
 use script::rows::READ_SYNC;
@@ -18,16 +19,6 @@ mod noise;
 mod reading;
 mod recording;
 mod sync;
-
-// Whether so many more chips fit into a recording.
-pub fn fits(chips: usize, count: usize) -> bool
-    ensures { λ r. ⌜ r ≡ fit chips count ⌝ }
-{
-    if count > CHIPS {
-        return false;
-    }
-    chips <= CHIPS - count
-}
 
 // The call with this row and these numbers. The recording has so many chips, and the last accepted read gave so many readings.
 pub fn call(
@@ -43,7 +34,15 @@ pub fn call(
         SILENCE => recording::silence(x[0], chips, m),
         ERASE => Answer::Erased,
         HARDEN => reading::harden(readings, m),
-        _ => of_part(row, x, chips, m),
+        BRIEF => Answer::Brief(true),
+        FULL => Answer::Brief(false),
+        HELP => Answer::Help,
+        _ => {
+            if row > FIND {
+                return code_lines::call(row, x, m);
+            }
+            of_part(row, x, chips, m)
+        }
     }
 }
 

@@ -1,5 +1,4 @@
 // Chips of one's own, and silence, to the end of the recording.
-use crate::fits;
 use script::answer::Answer;
 use script::arguments;
 use script::arguments::Chip;
@@ -7,6 +6,7 @@ use script::faults::Fault;
 use script::memory;
 use script::memory::Memory;
 use script::memory::READINGS;
+use script::memory::fits;
 use text::words;
 
 // Where the chips of a line ended; or what is wrong.

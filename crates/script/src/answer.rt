@@ -18,8 +18,8 @@ pub enum Answer {
     Number(u32),
     Sign(i32),
     Chip(i32, i32),
-    // Three sync codes, each after its unit, which is a power of j.
-    Three(u32, u32, u32, u32, u32, u32),
+    // Three sync codes, each as four times its number and the exponent of j that its unit has.
+    Three(u32, u32, u32),
     // Group, frame and half.
     Burst(u32, u32, u32),
     // Start and size.

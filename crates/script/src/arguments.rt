@@ -4,6 +4,7 @@ use crate::forms;
 use crate::forms::Form;
 use crate::rows::DRAW;
 use crate::rows::RECORD;
+use text::lines::ROOM;
 use text::numbers;
 use text::numbers::Component;
 use text::numbers::Natural;
@@ -24,13 +25,19 @@ pub struct Line {
 
 // A line with no word has row 0, and no fault.
 pub fn parsed(forms: &[u8], line: &[u8]) -> Line {
+    if line.len() >= ROOM {
+        return Line {
+            form: forms::named(forms, b""),
+            numbers: none(Fault::Long, 0),
+        };
+    }
     let w = words::next(line, 0);
     let form = forms::named(forms, words::part(line, w.from, w.to));
     let row = form.row;
     let numbers = match row {
         0 => none(unknown(w), w.to),
         RECORD => none(Fault::None, w.to),
-        DRAW => lengths(first(1, line, w.to), line),
+        DRAW => lengths(line, w.to),
         _ => all(words::part(forms, form.from, form.to), line, w.to),
     };
     Line { form, numbers }
@@ -76,24 +83,19 @@ fn ended(fault: Fault, x: [u32; 5], line: &[u8], at: usize) -> Numbers {
 }
 
 // The second length of a draw is the word after the first, or else the first.
-fn lengths(read: Numbers, line: &[u8]) -> Numbers {
-    let fault = read.fault;
-    let mut x = read.x;
-    let first = x[0];
-    match fault {
-        Fault::None => match natural(line, read.rest) {
-            Argument::Is(second, rest) => {
-                x[1] = second;
-                ended(fault, x, line, rest)
-            }
-            Argument::End => {
-                x[1] = first;
-                ended(fault, x, line, read.rest)
-            }
-            Argument::Not(wrong) => none(wrong, read.rest),
-        },
-        _ => read,
+fn lengths(line: &[u8], at: usize) -> Numbers {
+    let one = first(1, line, at);
+    let more = words::next(line, one.rest);
+    if more.from == more.to {
+        let fault = one.fault;
+        let mut x = one.x;
+        x[1] = x[0];
+        return ended(fault, x, line, one.rest);
     }
+    let two = first(2, line, at);
+    let fault = two.fault;
+    let x = two.x;
+    ended(fault, x, line, two.rest)
 }
 
 // Fault::Extra where the line has a word at or after `at`.

@@ -1,5 +1,7 @@
 // The numbers that the lines of a script are about, in one array: re components, and PLANE places further on the im components that belong to them.
 // At 0 the recording begins, at READINGS what the last accepted read gave, at LINE the values of the line that is being answered.
+ghost use mathlib.Core.Path.{_≡_};
+ghost use Rattle.script.specs.Room.{fit};
 
 // How many chips a recording holds.
 pub const CHIPS: usize = 38400;
@@ -48,4 +50,14 @@ pub fn put(m: &mut Memory, at: usize, re: i32, im: i32) {
 // Entry i; 0 past the end.
 pub fn entry(m: &Memory, i: usize) -> i32 {
     if i < SIZE { m[i] } else { 0 }
+}
+
+// Whether so many more chips fit into a recording.
+pub fn fits(chips: usize, count: usize) -> bool
+    ensures { λ r. ⌜ r ≡ fit chips count ⌝ }
+{
+    if count > CHIPS {
+        return false;
+    }
+    chips <= CHIPS - count
 }

@@ -7,33 +7,10 @@ use script::arguments;
 use script::arguments::Numbers;
 use script::faults::Fault;
 use script::memory::Memory;
-use script::rows::BRIEF;
-use script::rows::BURST_START;
 use script::rows::DRAW;
-use script::rows::FIND;
-use script::rows::FULL;
-use script::rows::SECONDARY;
 use text::answers::Answers;
 
-// A call that leaves the bench alone; HELP is the row that is left.
-fn beside(row: usize, x: [u32; 5], line: &[u8], s: State, m: &mut Memory) -> Answer {
-    if row <= FIND {
-        return recording_lines::call(row, x, line, s.chips, s.readings, m);
-    }
-    if row <= BURST_START {
-        return code_lines::call(row, x);
-    }
-    if row <= SECONDARY {
-        return code_lines::whole::code(row, x, m);
-    }
-    match row {
-        BRIEF => Answer::Brief(true),
-        FULL => Answer::Brief(false),
-        _ => Answer::Help,
-    }
-}
-
-// The state after such a call, by what it is answered.
+// The state after a call that leaves the bench alone, by what it is answered.
 fn after(s: State, a: Answer) -> State {
     let mut next = s;
     match a {
@@ -69,7 +46,7 @@ fn called(row: usize, numbers: Numbers, line: &[u8], s: State, m: &mut Memory) -
             if row <= DRAW {
                 return bench_lines::call(row, x, line, numbers.rest, s, m);
             }
-            let answer = beside(row, x, line, s, m);
+            let answer = recording_lines::call(row, x, line, s.chips, s.readings, m);
             Left {
                 state: after(s, answer),
                 answer,

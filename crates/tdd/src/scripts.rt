@@ -1,12 +1,8 @@
 // A script from its first line to its last.
 use crate::calls;
 use crate::calls::Next;
-use answer_text::Told;
 use bench::Bench;
 use bench_lines::State;
-use script::answer::Answer;
-use script::faults::Fault;
-use script::forms::Form;
 use script::memory;
 use script::memory::Memory;
 use text::answers;
@@ -39,22 +35,6 @@ fn answer_line(
     calls::answer(forms, words::part(buf, from, to), at, s, out, n, m)
 }
 
-// Answers line number `at`, which is too long.
-fn answer_long(at: u64, out: &mut Answers, n: usize, m: &Memory) -> usize {
-    let form = Form {
-        row: 0,
-        from: 0,
-        to: 0,
-    };
-    let told = Told {
-        at,
-        form,
-        chips: 0,
-        brief: false,
-    };
-    answer_text::print(out, n, Answer::Wrong(Fault::Long), told, b"", b"", m)
-}
-
 // Answers each line of the input. A proved loop has to end, and nothing says that the input does, so the loop counts its turns
 // down, from a number that no run uses up.
 fn run(fd: i32, forms: &[u8], buf: &mut Buffer, out: &mut Answers, m: &mut Memory) -> Ending {
@@ -76,11 +56,6 @@ fn run(fd: i32, forms: &[u8], buf: &mut Buffer, out: &mut Answers, m: &mut Memor
                 let done = answer_line(forms, buf, from, to, at, state, out, n, m);
                 state = done.state;
                 n = done.n;
-                at = std::num::wrapping_add_u64(at, 1);
-            }
-            Step::Long(next) => {
-                input = next;
-                n = answer_long(at, out, n, m);
                 at = std::num::wrapping_add_u64(at, 1);
             }
             Step::Short(next) => {

@@ -1,4 +1,4 @@
-// The lines of an input that is read in pieces. A line has at most 65,536 bytes; of a longer one every byte is dropped.
+// The lines of an input that is read in pieces. A line has at most 65,536 bytes; a longer one is cut after one byte more, and what follows is dropped.
 
 // One byte more than the longest line, for its line end.
 pub const ROOM: usize = 65537;
@@ -16,10 +16,8 @@ pub struct Input {
 }
 
 pub enum Step {
-    // The next line, buf[from..to].
+    // The next line, buf[from..to]; ROOM bytes where it is too long.
     Line(usize, usize, Input),
-    // A line that is too long.
-    Long(Input),
     // There is no whole line: read on.
     Short(Input),
     End,
@@ -160,5 +158,5 @@ pub fn advance(buf: &mut Buffer, input: Input) -> Step {
     }
     next.to = 0;
     next.skips = true;
-    Step::Long(next)
+    Step::Line(0, ROOM, next)
 }

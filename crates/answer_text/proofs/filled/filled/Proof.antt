@@ -8,4 +8,4 @@ use Rattle.answer_text.proofs.filled.filled.Tie as tie
 pub filled-spec : {M : Type 1} → statement M
 filled-spec =
     tie.close
-    (tie.spec (λ _ _ _ _ _ _ _ _ _ _ _ _ _ _. Unit {0}) (λ _ _ row _ _ _ _ _ _ _ _ _ _ i. length row - i) (λ c. search needs) (λ c. search needs) (λ c κs. search needs) (λ c κs. search needs) (λ c κs. search needs) (λ c κs. search needs) (λ c κs. search needs) (λ c κs. search needs) (λ c κs. search needs) (λ c κs. search needs) (λ c. search needs) (λ c. search needs) (λ c. search needs) (λ c. search needs))
+    (tie.spec (λ _ _ _ _ _ _ _ _ _ _ _ _ _ _ _. Unit {0}) (λ _ _ row _ _ _ _ _ _ _ _ _ _ _ i. length row - i) (λ c. search needs) (λ c. search needs) (λ c κs. search needs) (λ c κs. search needs) (λ c κs. search needs) (λ c κs. search needs) (λ c κs. search needs) (λ c κs. search needs) (λ c κs. search needs) (λ c κs. search needs) (λ c. search needs) (λ c. search needs) (λ c. search needs) (λ c. search needs))

@@ -6,7 +6,7 @@ use native.Mathlib.Nat.{lt-of-le-of-lt}
 use borrow.Author.Needs.{needs}
 use borrow.Author.Tests.{leb-true}
 use lib.Dec.{lit<}
-use Rattle.recording_lines.specs.Room.{fit}
+use Rattle.script.specs.Room.{fit}
 use Rattle.bench_lines.proofs.drawing.drew.Statement.{statement}
 use Rattle.bench_lines.proofs.drawing.drew.Tie as tie
 

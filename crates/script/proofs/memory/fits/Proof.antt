@@ -5,8 +5,8 @@ use Prim.Native.Nat.{ℕ, _+_, _-_, _≤_}
 use native.Mathlib.Omega.{arith}
 use borrow.Author.Tests.{le-leb, lt-leb, leb-true, leb-false}
 use lib.Dec.{leb}
-use Rattle.recording_lines.proofs.fits.Statement.{statement}
-use Rattle.recording_lines.proofs.fits.Tie as tie
+use Rattle.script.proofs.memory.fits.Statement.{statement}
+use Rattle.script.proofs.memory.fits.Tie as tie
 
 same-test : (a b : ℕ) → b ≤ 38400 → leb a (38400 - b) ≡ leb (a + b) 38400
 same-test a b l = go (leb a (38400 - b)) refl

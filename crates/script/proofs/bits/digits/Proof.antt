@@ -1,8 +1,8 @@
 -- `digits` is safe, and ends: with each turn fewer digits are left. Assumes nothing.
 use Prim.Native.Nat.{_-_}
 use borrow.Author.Needs.{needs}
-use Rattle.bench_lines.proofs.bits.digits.Statement.{statement}
-use Rattle.bench_lines.proofs.bits.digits.Tie as tie
+use Rattle.script.proofs.bits.digits.Statement.{statement}
+use Rattle.script.proofs.bits.digits.Tie as tie
 
 pub digits-spec : {M : Type 1} → statement M
 digits-spec =

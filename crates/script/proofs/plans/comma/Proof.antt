@@ -1,8 +1,8 @@
 -- `comma` is safe, and ends: with each turn fewer bytes are left. Assumes nothing.
 use Prim.Native.Nat.{_-_}
 use borrow.Author.Needs.{needs}
-use Rattle.bench_lines.proofs.plans.comma.Statement.{statement}
-use Rattle.bench_lines.proofs.plans.comma.Tie as tie
+use Rattle.script.proofs.plans.comma.Statement.{statement}
+use Rattle.script.proofs.plans.comma.Tie as tie
 
 pub comma-spec : {M : Type 1} → statement M
 comma-spec =

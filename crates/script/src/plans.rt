@@ -1,25 +1,23 @@
 // The records of a plan, one word each: Q,K,G.
-use bench::Channel;
-use bench::PlanRecords;
-use script::faults::Fault;
+use crate::faults::Fault;
 use text::numbers;
 use text::numbers::Natural;
 use text::words;
 
-// How many records there are, and the first 17 of them; or what is wrong.
+// How many records there are, and the numbers of the first 17; or what is wrong.
 pub struct Plan {
     pub fault: Fault,
     pub count: usize,
-    pub first: PlanRecords,
-}
-
-fn channel(q: u32, k: u32, gain: u32) -> Channel {
-    Channel { q, k, gain }
+    pub q: [u32; 17],
+    pub k: [u32; 17],
+    pub gain: [u32; 17],
 }
 
 // The records of a line at or after `at`.
 pub fn records(line: &[u8], at: usize) -> Plan {
-    let mut all = [channel(0, 0, 0); 17];
+    let mut q = [0u32; 17];
+    let mut k = [0u32; 17];
+    let mut gain = [0u32; 17];
     let mut fault = Fault::None;
     let mut from = at;
     let mut count: usize = 0;
@@ -29,9 +27,11 @@ pub fn records(line: &[u8], at: usize) -> Plan {
             break;
         }
         match to_record(words::part(line, w.from, w.to)) {
-            Record::Is(c) => {
+            Record::Is(x, y, z) => {
                 if count < 17 {
-                    all[count] = c;
+                    q[count] = x;
+                    k[count] = y;
+                    gain[count] = z;
                 }
             }
             Record::Bad => {
@@ -45,12 +45,14 @@ pub fn records(line: &[u8], at: usize) -> Plan {
     Plan {
         fault,
         count,
-        first: PlanRecords { records: all },
+        q,
+        k,
+        gain,
     }
 }
 
 enum Record {
-    Is(Channel),
+    Is(u32, u32, u32),
     Bad,
 }
 
@@ -66,7 +68,7 @@ fn to_record(w: &[u8]) -> Record {
             Natural::Bad => Record::Bad,
             Natural::Is(y) => match gain {
                 Natural::Bad => Record::Bad,
-                Natural::Is(z) => Record::Is(channel(x, y, z)),
+                Natural::Is(z) => Record::Is(x, y, z),
             },
         },
     }
