@@ -1,6 +1,7 @@
 """Part of faults.txt: calls that need a part, room, readings or sums that there are not."""
 
 from reference.recording import LARGEST_NOISE, LONGEST_RECORDING, noise_numbers
+from reference.script import LONGEST_LINE
 from reference.slot import SLOT
 
 from .recording_calls import seed_for
@@ -78,4 +79,19 @@ def sums_past_32_bits(script):
     glance(script)
 
 
-NEED_FAULTS = parts_outside, room_faults, room_for_silence, sizes_of_noise, sums_past_32_bits
+def longest_record(script):
+    """The most chips that a line can have, behind a recording that is full and in one that they
+    fill; the readings stay."""
+    script.say("the longest line of chips")
+    script.empty("record " + "1 2 " * 15 + "3 4, read 8 1 0 0 16, harden, erase, silence 38400")
+    chips = [(1, 2)] * ((LONGEST_LINE - len("record")) // len(" 1 2"))
+    script.add(chips_line(chips))
+    script.run(f"harden, show 38399 1, erase, silence {LONGEST_RECORDING - len(chips)}")
+    script.add(chips_line(chips))
+    script.run(f"brief, show {LONGEST_RECORDING - len(chips) - 1} {len(chips) + 1}, full, harden",
+               "record 1 2, harden, show 38398 2")
+    glance(script)
+
+
+NEED_FAULTS = (parts_outside, room_faults, room_for_silence, sizes_of_noise, sums_past_32_bits,
+               longest_record)

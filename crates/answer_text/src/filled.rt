@@ -1,5 +1,5 @@
 // The sentences of the answers, and how one is filled with numbers and words.
-use crate::Told;
+use crate::Context;
 use crate::sentences::Sentence;
 use script::forms;
 use script::memory::CHIPS;
@@ -11,7 +11,14 @@ use text::words;
 // Writes the sentence s. In a row # is its next number, ~ its next number with the sign, * its next number as a sync code with its unit, ! the number of the line,
 // & how many chips the recording has and ^ how many more it takes, ' the word of the line that is wrong, @ the form of its call. The numbers of the rows
 // are in sentences.rt.
-pub fn print(out: &mut Answers, n: usize, s: Sentence, t: Told, form: &[u8], line: &[u8]) -> usize {
+pub fn print(
+    out: &mut Answers,
+    n: usize,
+    s: Sentence,
+    c: Context,
+    form: &[u8],
+    line: &[u8],
+) -> usize {
     let row = forms::row(
         b"ok
 ok #
@@ -42,7 +49,7 @@ line !: the line has more than 65536 bytes; right is: at most 65536
         s.row,
     );
     let w = s.word;
-    let m = filled(out, n, row, s, t, words::part(line, w.from, w.to), form);
+    let m = filled(out, n, row, s, c, words::part(line, w.from, w.to), form);
     answers::byte(out, m, b'\n')
 }
 
@@ -52,7 +59,7 @@ fn filled(
     n: usize,
     row: &[u8],
     s: Sentence,
-    t: Told,
+    c: Context,
     word: &[u8],
     form: &[u8],
 ) -> usize {
@@ -63,7 +70,7 @@ fn filled(
         m = match b {
             b'\'' => quoted(out, m, word),
             b'@' => answers::text(out, m, words::part(form, 0, forms::end(form))),
-            _ => item(out, m, b, number(b, at, s, t)),
+            _ => item(out, m, b, number(b, at, s, c)),
         };
         if is_next(b) {
             at = std::num::wrapping_add_usize(at, 1);
@@ -83,11 +90,11 @@ fn is_next(b: u8) -> bool {
 }
 
 // The number that a byte of a row stands for; number `at` of the sentence is the next one.
-fn number(b: u8, at: usize, s: Sentence, t: Told) -> u64 {
+fn number(b: u8, at: usize, s: Sentence, c: Context) -> u64 {
     match b {
-        b'!' => t.at,
-        b'&' => t.chips as u64,
-        b'^' => std::num::wrapping_sub_usize(CHIPS, t.chips) as u64,
+        b'!' => c.at,
+        b'&' => c.chips as u64,
+        b'^' => std::num::wrapping_sub_usize(CHIPS, c.chips) as u64,
         _ => match at {
             0 => s.x,
             1 => s.y,
@@ -109,7 +116,7 @@ fn item(out: &mut Answers, n: usize, b: u8, x: u64) -> usize {
     }
 }
 
-// A sync code with its unit, as in -jC13: four times its number, and the unit's exponent of j.
+// A sync code with its unit, as in -jC13: x is four times its number plus the unit's exponent of j.
 fn sent(out: &mut Answers, n: usize, x: u64) -> usize {
     let m = match x % 4 {
         1 => answers::text(out, n, b"j"),
@@ -141,7 +148,7 @@ fn shown(out: &mut Answers, n: usize, word: &[u8]) -> usize {
     m
 }
 
-// b, or `?` for a byte that a terminal would not show.
+// b, or `?` where it is no printing ASCII character.
 fn printing(b: u8) -> u8 {
     if b < 33 {
         return b'?';

@@ -1,6 +1,5 @@
 // A line's answer as text.
-use lists::List;
-use script::answer::Answer;
+use script::answer::LineAnswer;
 use script::forms::Form;
 use script::memory::Memory;
 use text::answers;
@@ -11,8 +10,8 @@ mod filled;
 mod lists;
 mod sentences;
 
-// The line that is answered: its number in the script, its form, how many chips the recording has, and whether long lines are told in brief.
-pub struct Told {
+// Where the answer is due: the line's number in the script, its form, how many chips the recording has, and whether long lines are told in brief.
+pub struct Context {
     pub at: u64,
     pub form: Form,
     pub chips: usize,
@@ -23,23 +22,23 @@ pub struct Told {
 pub fn print(
     out: &mut Answers,
     n: usize,
-    a: Answer,
-    t: Told,
+    a: LineAnswer,
+    c: Context,
     forms: &[u8],
     line: &[u8],
     m: &Memory,
 ) -> usize {
     match a {
-        Answer::Nothing => n,
-        Answer::Help => answers::text(out, n, forms),
+        LineAnswer::Nothing => n,
+        LineAnswer::Help => answers::text(out, n, forms),
         _ => {
             let list = lists::of_answer(a);
             if list.kind != lists::NONE {
-                return lists::print(out, n, list, m, t.brief);
+                return lists::print(out, n, list, m, c.brief);
             }
             let s = sentences::of_answer(a);
-            let form = t.form;
-            filled::print(out, n, s, t, words::part(forms, form.from, form.to), line)
+            let form = c.form;
+            filled::print(out, n, s, c, words::part(forms, form.from, form.to), line)
         }
     }
 }

@@ -1,5 +1,5 @@
 // Lines of chips, readings, elements and bits.
-use script::answer::Answer;
+use script::answer::LineAnswer;
 use script::memory;
 use script::memory::LINE;
 use script::memory::Memory;
@@ -14,7 +14,6 @@ const CHIPS: usize = 1;
 
 const ELEMENTS: usize = 2;
 
-// Before a line of these two stands a line with their count.
 const READ: usize = 3;
 
 const BITS: usize = 4;
@@ -27,24 +26,24 @@ pub struct List {
 }
 
 // The list that an answer is, or NONE.
-pub fn of_answer(a: Answer) -> List {
+pub fn of_answer(a: LineAnswer) -> List {
     match a {
-        Answer::Chips(at, count) => List {
+        LineAnswer::Chips(at, count) => List {
             kind: CHIPS,
             at,
             count,
         },
-        Answer::Elements(count) => List {
+        LineAnswer::Elements(count) => List {
             kind: ELEMENTS,
             at: LINE,
             count,
         },
-        Answer::Readings(count) => List {
+        LineAnswer::Readings(count) => List {
             kind: READ,
             at: READINGS,
             count,
         },
-        Answer::Bits(count) => List {
+        LineAnswer::Bits(count) => List {
             kind: BITS,
             at: LINE,
             count,
@@ -61,7 +60,7 @@ pub fn print(out: &mut Answers, n: usize, l: List, m: &Memory, brief: bool) -> u
     let re = memory::part(m, l.at, l.count);
     let im = memory::im_part(m, l.at, if l.kind == BITS { 0 } else { l.count });
     let mut k = n;
-    if l.kind >= READ {
+    if l.kind == READ || l.kind == BITS {
         k = answers::counted(out, k, b"ok ", l.count as u64);
         k = answers::byte(out, k, b'\n');
     }

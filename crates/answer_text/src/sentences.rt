@@ -1,5 +1,5 @@
 // The answers that are one sentence: which one, and the numbers in it.
-use script::answer::Answer;
+use script::answer::LineAnswer;
 use script::faults::Fault;
 use text::complement;
 use text::words::Word;
@@ -89,21 +89,26 @@ fn wide(x: i32) -> u64 {
 }
 
 // OK is the sentence that is left.
-pub fn of_answer(a: Answer) -> Sentence {
+pub fn of_answer(a: LineAnswer) -> Sentence {
     match a {
-        Answer::Counted(count) => plain(COUNTED, count as u64, 0, 0),
-        Answer::Refused(number) => plain(REFUSED, number as u64, 0, 0),
-        Answer::RefusedAt(number, place) => plain(REFUSED_AT, number as u64, place as u64, 0),
-        Answer::Is(yes) => plain(if yes { YES } else { NO }, 0, 0, 0),
-        Answer::Number(x) => plain(NUMBER, x as u64, 0, 0),
-        Answer::Sign(x) => plain(SIGN, wide(x), 0, 0),
-        Answer::Chip(re, im) => plain(CHIP, wide(re), wide(im), 0),
-        Answer::Three(first, second, marker) => {
+        LineAnswer::Counted(count) => plain(COUNTED, count as u64, 0, 0),
+        LineAnswer::Refused(number) => plain(REFUSED, number as u64, 0, 0),
+        LineAnswer::RefusedAt(number, place) => plain(REFUSED_AT, number as u64, place as u64, 0),
+        LineAnswer::Is(yes) => plain(if yes { YES } else { NO }, 0, 0, 0),
+        LineAnswer::Number(x) => plain(NUMBER, x as u64, 0, 0),
+        LineAnswer::Sign(x) => plain(SIGN, wide(x), 0, 0),
+        LineAnswer::Chip(re, im) => plain(CHIP, wide(re), wide(im), 0),
+        LineAnswer::Three(first, second, marker) => {
             plain(THREE, first as u64, second as u64, marker as u64)
         }
-        Answer::Burst(group, frame, half) => plain(BURST, group as u64, frame as u64, half as u64),
-        Answer::Peak(start, size) => plain(PEAK, start as u64, size, 0),
-        Answer::Wrong(fault) => of_fault(fault),
+        LineAnswer::Burst(group, frame, half) => plain(
+            BURST,
+            group as u64,
+            frame as u64,
+            half as u64,
+        ),
+        LineAnswer::Peak(start, size) => plain(PEAK, start as u64, size, 0),
+        LineAnswer::Wrong(fault) => of_fault(fault),
         _ => plain(OK, 0, 0, 0),
     }
 }

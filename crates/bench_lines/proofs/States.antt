@@ -4,7 +4,7 @@ use Prim.Native.Nat.{ℕ}
 use Rattle.codes.specs.Refusals.{Answer, refused, gives, after}
 use Rattle.bench.specs.declared.Bench.{Bench}
 use Rattle.bench.specs.BenchCalls.{AcceptedDraw, draw-outcome}
-use Rattle.script.specs.declared.answer.Answer.the-variants.{Refused}
+use Rattle.script.specs.declared.answer.LineAnswer.the-variants.{Refused}
 use Rattle.bench_lines.specs.declared.State.{State}
 use Rattle.bench_lines.specs.Drawing.{after-draw, answer-of-count, draw-answer, kept}
 

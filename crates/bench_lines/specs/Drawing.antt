@@ -4,8 +4,8 @@ use mathlib.Core.Bool.{cond}
 use Rattle.codes.specs.Refusals.{Answer, refused, gives}
 use Rattle.bench.specs.declared.Bench.{Bench}
 use Rattle.bench.specs.BenchCalls.{AcceptedDraw}
-use Rattle.script.specs.declared.answer.Answer as line
-use Rattle.script.specs.declared.answer.Answer.the-variants.{Counted, Refused, Wrong}
+use Rattle.script.specs.declared.answer.LineAnswer.{LineAnswer}
+use Rattle.script.specs.declared.answer.LineAnswer.the-variants.{Counted, Refused, Wrong}
 use Rattle.script.specs.declared.faults.Fault.the-variants.{Full}
 use Rattle.script.specs.Room.{fit}
 use Rattle.bench_lines.specs.declared.State.{State}
@@ -20,10 +20,10 @@ after-draw s (refused k) = s
 after-draw s (gives d) = kept s (d .bench) (d .count)
 
 -- "`ok COUNT`"; a draw whose chips do not fit is no call
-abbrev pub answer-of-count : State → ℕ → line.Answer
+abbrev pub answer-of-count : State → ℕ → LineAnswer
 answer-of-count s count = cond (fit (s .chips) count) (Counted count) (Wrong (Full count))
 
 -- "or `refused N`"
-abbrev pub draw-answer : State → Answer AcceptedDraw → line.Answer
+abbrev pub draw-answer : State → Answer AcceptedDraw → LineAnswer
 draw-answer s (refused k) = Refused k
 draw-answer s (gives d) = answer-of-count s (d .count)

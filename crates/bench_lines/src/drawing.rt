@@ -11,7 +11,7 @@ use crate::State;
 use bench::Bench;
 use bench::DrawAnswer;
 use bench::Drawn;
-use script::answer::Answer;
+use script::answer::LineAnswer;
 use script::faults::Fault;
 use script::memory;
 use script::memory::Memory;
@@ -73,12 +73,12 @@ fn drew(s: State, b: Bench, count: usize) -> Left
         };
         return Left {
             state: next,
-            answer: Answer::Counted(count),
+            answer: LineAnswer::Counted(count),
         };
     }
     Left {
         state: s,
-        answer: Answer::Wrong(Fault::Full(count)),
+        answer: LineAnswer::Wrong(Fault::Full(count)),
     }
 }
 
@@ -95,7 +95,7 @@ pub fn draw(s: State, n: u32, m: u32, memory: &mut Memory) -> Left
     match a {
         DrawAnswer::Refused(number) => Left {
             state: s,
-            answer: Answer::Refused(number),
+            answer: LineAnswer::Refused(number),
         },
         DrawAnswer::Drew(count) => {
             append(memory, s.chips, &re, &im, count);

@@ -7,7 +7,7 @@ use bench::PlanAnswer;
 use bench::PlanRecords;
 use bench::Planned;
 use codes::CellParameter;
-use script::answer::Answer;
+use script::answer::LineAnswer;
 use script::arguments;
 use script::bits;
 use script::faults::Fault;
@@ -39,7 +39,7 @@ pub struct State {
 // What a line leaves, and what it is answered.
 pub struct Left {
     pub state: State,
-    pub answer: Answer,
+    pub answer: LineAnswer,
 }
 
 // The call with this row and these numbers; what follows them in the line begins at `rest`.
@@ -48,13 +48,13 @@ pub fn call(row: usize, x: [u32; 5], line: &[u8], rest: usize, s: State, m: &mut
         return drawing::draw(s, x[0], x[1], m);
     }
     let b = s.bench;
-    let told = match row {
+    let left = match row {
         LOAD_PLAN => load_plan(b, plans::records(line, rest)),
         LOAD_BITS => load_bits(b, x[0], x[1], line, rest),
         _ => changed(numbered(row, x, b)),
     };
-    let bench = told.bench;
-    let answer = told.answer;
+    let bench = left.bench;
+    let answer = left.answer;
     let state = State {
         bench,
         chips: s.chips,
@@ -65,19 +65,19 @@ pub fn call(row: usize, x: [u32; 5], line: &[u8], rest: usize, s: State, m: &mut
 }
 
 // The bench after a call, and what the call is answered.
-struct Told {
+struct BenchLeft {
     bench: Bench,
-    answer: Answer,
+    answer: LineAnswer,
 }
 
-fn no_call(bench: Bench, fault: Fault) -> Told {
-    Told {
+fn no_call(bench: Bench, fault: Fault) -> BenchLeft {
+    BenchLeft {
         bench,
-        answer: Answer::Wrong(fault),
+        answer: LineAnswer::Wrong(fault),
     }
 }
 
-// A call that takes numbers alone; START is the row that is left.
+// A call that takes numbers alone; START is the row that is left, for `tdd` hands on rows 1 to DRAW and no others.
 fn numbered(row: usize, x: [u32; 5], b: Bench) -> Answered {
     let first = x[0];
     let second = x[1];
@@ -93,18 +93,18 @@ fn numbered(row: usize, x: [u32; 5], b: Bench) -> Answered {
     }
 }
 
-fn changed(r: Answered) -> Told {
+fn changed(r: Answered) -> BenchLeft {
     let bench = r.bench;
     let a = r.answer;
     let answer = match a {
-        CallAnswer::Accepted => Answer::Done,
-        CallAnswer::Refused(number) => Answer::Refused(number),
+        CallAnswer::Accepted => LineAnswer::Done,
+        CallAnswer::Refused(number) => LineAnswer::Refused(number),
     };
-    Told { bench, answer }
+    BenchLeft { bench, answer }
 }
 
 // The bits are the word at or after `at`; none is no bits.
-fn load_bits(b: Bench, q: u32, k: u32, line: &[u8], at: usize) -> Told {
+fn load_bits(b: Bench, q: u32, k: u32, line: &[u8], at: usize) -> BenchLeft {
     let w = words::next(line, at);
     let bits = bits::digits(words::part(line, w.from, w.to));
     if !bits.right {
@@ -121,7 +121,7 @@ fn load_bits(b: Bench, q: u32, k: u32, line: &[u8], at: usize) -> Told {
 }
 
 // At most 16 codes can be open together, so the first 17 records decide.
-fn load_plan(b: Bench, plan: Plan) -> Told {
+fn load_plan(b: Bench, plan: Plan) -> BenchLeft {
     let fault = plan.fault;
     match fault {
         Fault::None => planned(b.load_records(records(plan), plan.count)),
@@ -149,12 +149,12 @@ fn records(plan: Plan) -> PlanRecords {
     PlanRecords { records: all }
 }
 
-fn planned(r: Planned) -> Told {
+fn planned(r: Planned) -> BenchLeft {
     let bench = r.bench;
     let a = r.answer;
     let answer = match a {
-        PlanAnswer::Loaded => Answer::Done,
-        PlanAnswer::Refused(number, place) => Answer::RefusedAt(number, place),
+        PlanAnswer::Loaded => LineAnswer::Done,
+        PlanAnswer::Refused(number, place) => LineAnswer::RefusedAt(number, place),
     };
-    Told { bench, answer }
+    BenchLeft { bench, answer }
 }

@@ -8,7 +8,7 @@ use codes::GroupAnswer;
 use codes::ModulatedCode;
 use codes::RelatedAnswer;
 use codes::StartAnswer;
-use script::answer::Answer;
+use script::answer::LineAnswer;
 use script::memory::Memory;
 use script::rows::ALLOCATION;
 use script::rows::BURST_START;
@@ -21,7 +21,7 @@ use script::rows::SCRAMBLING_CHIP;
 mod whole;
 
 // A line of the code rules, by its row: one of the eight calls, or a whole code.
-pub fn call(row: usize, x: [u32; 5], m: &mut Memory) -> Answer {
+pub fn call(row: usize, x: [u32; 5], m: &mut Memory) -> LineAnswer {
     if row <= BURST_START {
         return one(row, x);
     }
@@ -29,7 +29,7 @@ pub fn call(row: usize, x: [u32; 5], m: &mut Memory) -> Answer {
 }
 
 // One of the eight calls; SECONDARY_CHIP is the row that is left.
-fn one(row: usize, x: [u32; 5]) -> Answer {
+fn one(row: usize, x: [u32; 5]) -> LineAnswer {
     let first = x[0];
     let second = x[1];
     let third = x[2];
@@ -46,46 +46,46 @@ fn one(row: usize, x: [u32; 5]) -> Answer {
     }
 }
 
-fn element(a: ElementAnswer) -> Answer {
+fn element(a: ElementAnswer) -> LineAnswer {
     match a {
-        ElementAnswer::Element(x) => Answer::Sign(x),
-        ElementAnswer::Refused(number) => Answer::Refused(number),
+        ElementAnswer::Element(x) => LineAnswer::Sign(x),
+        ElementAnswer::Refused(number) => LineAnswer::Refused(number),
     }
 }
 
-fn related(a: RelatedAnswer) -> Answer {
+fn related(a: RelatedAnswer) -> LineAnswer {
     match a {
-        RelatedAnswer::Related(is) => Answer::Is(is),
-        RelatedAnswer::Refused(number) => Answer::Refused(number),
+        RelatedAnswer::Related(is) => LineAnswer::Is(is),
+        RelatedAnswer::Refused(number) => LineAnswer::Refused(number),
     }
 }
 
-fn group(a: GroupAnswer) -> Answer {
+fn group(a: GroupAnswer) -> LineAnswer {
     match a {
-        GroupAnswer::Group(g) => Answer::Number(g.0),
-        GroupAnswer::Refused(number) => Answer::Refused(number),
+        GroupAnswer::Group(g) => LineAnswer::Number(g.0),
+        GroupAnswer::Refused(number) => LineAnswer::Refused(number),
     }
 }
 
-fn chip(a: ChipAnswer) -> Answer {
+fn chip(a: ChipAnswer) -> LineAnswer {
     match a {
-        ChipAnswer::Chip(z) => Answer::Chip(z.re, z.im),
-        ChipAnswer::Refused(number) => Answer::Refused(number),
+        ChipAnswer::Chip(z) => LineAnswer::Chip(z.re, z.im),
+        ChipAnswer::Refused(number) => LineAnswer::Refused(number),
     }
 }
 
-fn three(a: AllocationAnswer) -> Answer {
+fn three(a: AllocationAnswer) -> LineAnswer {
     match a {
-        AllocationAnswer::Codes(c) => Answer::Three(
+        AllocationAnswer::Codes(c) => LineAnswer::Three(
             with_unit(c.first),
             with_unit(c.second),
             with_unit(c.marker),
         ),
-        AllocationAnswer::Refused(number) => Answer::Refused(number),
+        AllocationAnswer::Refused(number) => LineAnswer::Refused(number),
     }
 }
 
-// Four times the code's number, and the exponent of j that its unit has.
+// Four times the code's number plus the exponent of j that its unit has.
 fn with_unit(c: ModulatedCode) -> u32 {
     let unit = c.unit;
     let code = c.code % 16 * 4;
@@ -101,9 +101,9 @@ fn with_unit(c: ModulatedCode) -> u32 {
     code
 }
 
-fn start(a: StartAnswer) -> Answer {
+fn start(a: StartAnswer) -> LineAnswer {
     match a {
-        StartAnswer::Start(chip) => Answer::Number(chip),
-        StartAnswer::Refused(number) => Answer::Refused(number),
+        StartAnswer::Start(chip) => LineAnswer::Number(chip),
+        StartAnswer::Refused(number) => LineAnswer::Refused(number),
     }
 }

@@ -1,6 +1,6 @@
 // Whole codes, chip by chip through the public calls.
 use crate::one;
-use script::answer::Answer;
+use script::answer::LineAnswer;
 use script::memory;
 use script::memory::LINE;
 use script::memory::Memory;
@@ -13,13 +13,13 @@ use script::rows::SCRAMBLING_CHIP;
 use script::rows::SECONDARY_CHIP;
 
 // A whole code, into the memory at LINE: chips as long as there are some, at most 256. It is refused as its chip 0 is.
-pub fn code(row: usize, x: [u32; 5], m: &mut Memory) -> Answer {
+pub fn code(row: usize, x: [u32; 5], m: &mut Memory) -> LineAnswer {
     let mut at = LINE;
     for i in 0..256 {
         let a = chip(row, x, i);
         match a {
-            Answer::Sign(sign) => memory::put(m, at, sign, 0),
-            Answer::Chip(re, im) => memory::put(m, at, re, im),
+            LineAnswer::Sign(sign) => memory::put(m, at, sign, 0),
+            LineAnswer::Chip(re, im) => memory::put(m, at, re, im),
             _ => {
                 break;
             }
@@ -31,13 +31,13 @@ pub fn code(row: usize, x: [u32; 5], m: &mut Memory) -> Answer {
         return chip(row, x, 0);
     }
     if row == CODE {
-        return Answer::Elements(count);
+        return LineAnswer::Elements(count);
     }
-    Answer::Chips(LINE, count)
+    LineAnswer::Chips(LINE, count)
 }
 
 // Chip i of the code of a line; SECONDARY is the row that is left.
-fn chip(row: usize, x: [u32; 5], i: u32) -> Answer {
+fn chip(row: usize, x: [u32; 5], i: u32) -> LineAnswer {
     let first = x[0];
     let second = x[1];
     match row {

@@ -1,5 +1,5 @@
 // The calls of a line that leave the bench alone: those that make a recording of chips and read it, and beside them those of the code rules and of the program itself.
-use script::answer::Answer;
+use script::answer::LineAnswer;
 use script::faults::Fault;
 use script::memory::Memory;
 use script::rows::BRIEF;
@@ -20,7 +20,7 @@ mod reading;
 mod recording;
 mod sync;
 
-// The call with this row and these numbers. The recording has so many chips, and the last accepted read gave so many readings.
+// The call with this row and these numbers; row 0 is that of a line with no word. The recording has so many chips, and the last accepted read gave so many readings.
 pub fn call(
     row: usize,
     x: [u32; 5],
@@ -28,15 +28,16 @@ pub fn call(
     chips: usize,
     readings: usize,
     m: &mut Memory,
-) -> Answer {
+) -> LineAnswer {
     match row {
+        0 => LineAnswer::Nothing,
         RECORD => recording::record(line, chips, m),
         SILENCE => recording::silence(x[0], chips, m),
-        ERASE => Answer::Erased,
+        ERASE => LineAnswer::Erased,
         HARDEN => reading::harden(readings, m),
-        BRIEF => Answer::Brief(true),
-        FULL => Answer::Brief(false),
-        HELP => Answer::Help,
+        BRIEF => LineAnswer::Brief(true),
+        FULL => LineAnswer::Brief(false),
+        HELP => LineAnswer::Help,
         _ => {
             if row > FIND {
                 return code_lines::call(row, x, m);
@@ -70,26 +71,27 @@ fn part_of(row: usize, x: [u32; 5]) -> Part {
 }
 
 // A call on a part of the recording; FIND is the one that is left.
-fn of_part(row: usize, x: [u32; 5], chips: usize, m: &mut Memory) -> Answer {
+fn of_part(row: usize, x: [u32; 5], chips: usize, m: &mut Memory) -> LineAnswer {
     let p = part_of(row, x);
-    let fault = unfit(row, x[3], chips, p);
+    let size = if row == NOISE { x[3] } else { 0 };
+    let fault = unfit(size, chips, p);
     let from = p.from as usize;
     let count = p.count as usize;
     match fault {
         Fault::None => match row {
             NOISE => noise::add(from, count, x[2], x[3], m),
-            SHOW => Answer::Chips(from, count),
+            SHOW => LineAnswer::Chips(from, count),
             READ => reading::read(x, from, count, m),
             READ_SYNC => sync::read_sync(x[0], from, count, m),
             _ => sync::find(from, count, m),
         },
-        _ => Answer::Wrong(fault),
+        _ => LineAnswer::Wrong(fault),
     }
 }
 
-// What is wrong with the size of a noise, or with the part: it goes past the recording's end.
-fn unfit(row: usize, size: u32, chips: usize, p: Part) -> Fault {
-    if row == NOISE && size > 100000 {
+// What is wrong with the size of a noise, which is too large, or with the part, which goes past the recording's end.
+fn unfit(size: u32, chips: usize, p: Part) -> Fault {
+    if size > 100000 {
         return Fault::Loud(size);
     }
     let from = p.from as usize;

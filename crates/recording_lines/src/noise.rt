@@ -1,5 +1,5 @@
 // Noise on a part of the recording. docs/TDD.md has the generator's rule.
-use script::answer::Answer;
+use script::answer::LineAnswer;
 use script::faults::Fault;
 use script::memory;
 use script::memory::Memory;
@@ -8,14 +8,14 @@ use text::complement::signed;
 use text::complement::word;
 
 // Adds noise to `count` chips from `from` on, or to none where one of the sums leaves 32 bits.
-pub fn add(from: usize, count: usize, seed: u32, size: u32, m: &mut Memory) -> Answer {
+pub fn add(from: usize, count: usize, seed: u32, size: u32, m: &mut Memory) -> LineAnswer {
     let end = std::num::wrapping_add_usize(from, count);
     let past = first_past(m, from, end, seed, size);
     if past < end {
-        return Answer::Wrong(Fault::Past(past));
+        return LineAnswer::Wrong(Fault::Past(past));
     }
     add_all(m, from, end, seed, size);
-    Answer::Done
+    LineAnswer::Done
 }
 
 // The first chip from `from` on and before `end` whose sums leave 32 bits, or else `end`.

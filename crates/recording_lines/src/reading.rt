@@ -1,7 +1,7 @@
 // Readings of a part of the recording, and their hard bits.
 use codes::CellParameter;
 use read::ReadAnswer;
-use script::answer::Answer;
+use script::answer::LineAnswer;
 use script::faults::Fault;
 use script::memory;
 use script::memory::LINE;
@@ -38,16 +38,16 @@ fn readings_of(x: [u32; 5], from: usize, count: usize, m: &Memory) -> ReadResult
 }
 
 // What read answers to P, Q and K of x for `count` chips from `from` on. The readings go to READINGS; where it refuses, those there stay.
-pub fn read(x: [u32; 5], from: usize, count: usize, m: &mut Memory) -> Answer {
+pub fn read(x: [u32; 5], from: usize, count: usize, m: &mut Memory) -> LineAnswer {
     let w = readings_of(x, from, count, m);
     if w.refusal != 0 {
-        return Answer::Refused(w.refusal);
+        return LineAnswer::Refused(w.refusal);
     }
     let re = w.re;
     let im = w.im;
     let readings = quotient(count, x[1] as usize);
     keep(m, &re, &im, readings);
-    Answer::Readings(readings)
+    LineAnswer::Readings(readings)
 }
 
 fn quotient(chips: usize, q: usize) -> usize {
@@ -83,14 +83,14 @@ fn hard_bits(readings: usize, m: &Memory) -> HardenResult {
 }
 
 // The hard bits of the readings, at LINE.
-pub fn harden(readings: usize, m: &mut Memory) -> Answer {
+pub fn harden(readings: usize, m: &mut Memory) -> LineAnswer {
     if readings == 0 {
-        return Answer::Wrong(Fault::NoReadings);
+        return LineAnswer::Wrong(Fault::NoReadings);
     }
     let hard = hard_bits(readings, m);
     let bytes = hard.bytes;
     keep_bits(m, &bytes);
-    Answer::Bits(std::num::wrapping_add_usize(readings, readings))
+    LineAnswer::Bits(std::num::wrapping_add_usize(readings, readings))
 }
 
 fn keep_bits(m: &mut Memory, bits: &[u8; 2208]) {

@@ -1,5 +1,5 @@
 // Chips of one's own, and silence, to the end of the recording.
-use script::answer::Answer;
+use script::answer::LineAnswer;
 use script::arguments;
 use script::arguments::Chip;
 use script::faults::Fault;
@@ -39,34 +39,34 @@ fn keep(line: &[u8], chips: usize, m: &mut Memory) -> Kept {
     Kept { fault, to: k }
 }
 
-pub fn record(line: &[u8], chips: usize, m: &mut Memory) -> Answer {
+pub fn record(line: &[u8], chips: usize, m: &mut Memory) -> LineAnswer {
     let kept = keep(line, chips, m);
     let fault = kept.fault;
     let count = std::num::wrapping_sub_usize(kept.to, chips);
     match fault {
         Fault::None => recorded(chips, count),
-        _ => Answer::Wrong(fault),
+        _ => LineAnswer::Wrong(fault),
     }
 }
 
 // So many chips stand behind the recording's last one: they are part of it now, or there are none, or they do not fit.
-fn recorded(chips: usize, count: usize) -> Answer {
+fn recorded(chips: usize, count: usize) -> LineAnswer {
     if count == 0 {
-        return Answer::Wrong(Fault::Missing);
+        return LineAnswer::Wrong(Fault::Missing);
     }
     if fits(chips, count) {
-        return Answer::Recorded(count);
+        return LineAnswer::Recorded(count);
     }
-    Answer::Wrong(Fault::Full(count))
+    LineAnswer::Wrong(Fault::Full(count))
 }
 
-pub fn silence(count: u32, chips: usize, m: &mut Memory) -> Answer {
+pub fn silence(count: u32, chips: usize, m: &mut Memory) -> LineAnswer {
     let more = count as usize;
     if !fits(chips, more) {
-        return Answer::Wrong(Fault::Full(more));
+        return LineAnswer::Wrong(Fault::Full(more));
     }
     zeros(m, chips, std::num::wrapping_add_usize(chips, more));
-    Answer::Recorded(more)
+    LineAnswer::Recorded(more)
 }
 
 // Puts 0 at each place from `from` on and before `to`.

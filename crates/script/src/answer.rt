@@ -1,7 +1,7 @@
 // What a line is answered: numbers alone. The values of a long line stand in the memory.
 use crate::faults::Fault;
 
-pub enum Answer {
+pub enum LineAnswer {
     // The line has no word.
     Nothing,
     Done,
@@ -18,7 +18,7 @@ pub enum Answer {
     Number(u32),
     Sign(i32),
     Chip(i32, i32),
-    // Three sync codes, each as four times its number and the exponent of j that its unit has.
+    // Three sync codes, each as four times its number plus the exponent of j that its unit has.
     Three(u32, u32, u32),
     // Group, frame and half.
     Burst(u32, u32, u32),

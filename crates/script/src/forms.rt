@@ -45,7 +45,7 @@ fn walked(text: &[u8], name: &[u8], number: usize) -> Form {
     }
 }
 
-// No row begins with no word, also where its first word is a comment.
+// A row that is all comment begins with no word, and no name is that.
 fn begins_with(row: &[u8], name: &[u8]) -> bool {
     if name.len() == 0 {
         return false;

@@ -1,34 +1,35 @@
 // A line from its bytes to its answer.
-use answer_text::Told;
+use answer_text::Context;
 use bench_lines::Left;
 use bench_lines::State;
-use script::answer::Answer;
+use script::answer::LineAnswer;
 use script::arguments;
 use script::arguments::Numbers;
 use script::faults::Fault;
 use script::memory::Memory;
 use script::rows::DRAW;
 use text::answers::Answers;
+use text::words;
 
-// The state after a call that leaves the bench alone, by what it is answered.
-fn after(s: State, a: Answer) -> State {
-    let mut next = s;
-    match a {
-        Answer::Recorded(count) => {
-            next.chips = std::num::wrapping_add_usize(s.chips, count);
+// The state after a line that does not touch the bench, by what it is answered.
+fn beside(s: State, answer: LineAnswer) -> Left {
+    let mut state = s;
+    match answer {
+        LineAnswer::Recorded(count) => {
+            state.chips = std::num::wrapping_add_usize(s.chips, count);
         }
-        Answer::Erased => {
-            next.chips = 0;
+        LineAnswer::Erased => {
+            state.chips = 0;
         }
-        Answer::Readings(count) => {
-            next.readings = count;
+        LineAnswer::Readings(count) => {
+            state.readings = count;
         }
-        Answer::Brief(brief) => {
-            next.brief = brief;
+        LineAnswer::Brief(brief) => {
+            state.brief = brief;
         }
         _ => {}
     }
-    next
+    Left { state, answer }
 }
 
 // What a line with these numbers leaves; row 0 is that of a line with no word.
@@ -37,49 +38,42 @@ fn called(row: usize, numbers: Numbers, line: &[u8], s: State, m: &mut Memory) -
     let x = numbers.x;
     match fault {
         Fault::None => {
-            if row == 0 {
-                return Left {
-                    state: s,
-                    answer: Answer::Nothing,
-                };
-            }
-            if row <= DRAW {
+            if 0 < row && row <= DRAW {
                 return bench_lines::call(row, x, line, numbers.rest, s, m);
             }
-            let answer = recording_lines::call(row, x, line, s.chips, s.readings, m);
-            Left {
-                state: after(s, answer),
-                answer,
-            }
+            beside(
+                s,
+                recording_lines::call(row, x, line, s.chips, s.readings, m),
+            )
         }
-        _ => Left {
-            state: s,
-            answer: Answer::Wrong(fault),
-        },
+        _ => beside(s, LineAnswer::Wrong(fault)),
     }
 }
 
-// The state that a line leaves, and how many bytes of the answers are used after it.
-pub struct Next {
+// The state, and how many bytes of the answers are used.
+pub struct Now {
     pub state: State,
     pub n: usize,
 }
 
-// Answers line number `at`.
+// Answers line number `at`, buf[from..to].
 pub fn answer(
     forms: &[u8],
-    line: &[u8],
+    buf: &[u8],
+    from: usize,
+    to: usize,
     at: u64,
-    s: State,
+    now: Now,
     out: &mut Answers,
-    n: usize,
     m: &mut Memory,
-) -> Next {
+) -> Now {
+    let line = words::part(buf, from, to);
     let parsed = arguments::parsed(forms, line);
     let form = parsed.form;
     let numbers = parsed.numbers;
+    let s = now.state;
     let left = called(form.row, numbers, line, s, m);
-    let told = Told {
+    let context = Context {
         at,
         form,
         chips: s.chips,
@@ -87,8 +81,8 @@ pub fn answer(
     };
     let state = left.state;
     let a = left.answer;
-    Next {
+    Now {
         state,
-        n: answer_text::print(out, n, a, told, forms, line, m),
+        n: answer_text::print(out, now.n, a, context, forms, line, m),
     }
 }

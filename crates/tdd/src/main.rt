@@ -16,7 +16,7 @@ load-bits Q K [BITS]            # the bits of an open code, field 1's first, as 
 set-sync CASE FRAME HALF GP GS  # the cell's sync burst: case 1 or 2, frame 1 or 2, half 0, or 1 in case 2, gains 1 to 4095
 clear-sync                      # no sync burst
 start                           # a slot of 2560 chips with the settings as they are now
-draw N [M]                      # the next N chips of the slot, to the end of the recording (N entries for re, M for im)
+draw N [M]                      # the next chips of the slot, at most N, to the end of the recording (N entries for re, M for im)
 record RE IM [RE IM]...         # chips of your own, to the end of the recording
 silence COUNT                   # COUNT chips of 0, to the end of the recording
 noise FROM COUNT SEED SIZE      # adds noise from -SIZE to SIZE to COUNT chips of the recording from chip FROM on
@@ -34,7 +34,7 @@ primary-chip CHIP               # chip CHIP, 0 to 255, of the primary sync code
 secondary-chip I CHIP           # chip CHIP, 0 to 255, of secondary sync code I
 allocation CASE G FRAME HALF    # the secondary sync codes of code group G, 0 to 31, with their units
 burst-start G                   # where in the slot the sync burst of code group G begins
-code Q K                        # all chips of code (Q, K)
+code Q K                        # all elements of code (Q, K)
 scrambling P                    # all 16 chips of scrambling code P
 primary                         # all 256 chips of the primary sync code
 secondary I                     # all 256 chips of secondary sync code I: 0, 1, 3, 4, 5, 6, 8, 10, 12, 13, 14 or 15
@@ -54,7 +54,7 @@ fn program(forms: &[u8]) {
         return;
     }
     for i in 1..count {
-        if !answer_file(i, count > 2, forms) {
+        if !answer_argument(i, count > 2, forms) {
             break;
         }
     }
@@ -82,25 +82,28 @@ fn ended(ending: Ending, name: &[u8]) -> bool {
     }
 }
 
-// Answers the script that argument i names, and whether the next one can be run. Where there are several it says first which.
-fn answer_file(i: usize, several: bool, forms: &[u8]) -> bool {
+// Answers the script that argument i names, and whether the next one can be run.
+fn answer_argument(i: usize, several: bool, forms: &[u8]) -> bool {
     let mut path = io::buffer();
     let n = os::arg(i, &mut path);
     if os::errno() != 0 {
         fail(b"tdd: cannot open ", b"a script");
         return true;
     }
-    if several {
-        if !heading(&path[..n]) {
-            return ended(Ending::NotWritten, b"");
-        }
+    answer_file(&path[..n], several, forms)
+}
+
+// Answers the script with this name, and whether the next one can be run. Where there are several it says first which.
+fn answer_file(name: &[u8], several: bool, forms: &[u8]) -> bool {
+    if several && !heading(name) {
+        return ended(Ending::NotWritten, b"");
     }
-    let fd = os::open_read(&path[..n]);
+    let fd = os::open_read(name);
     if fd < 0 {
-        fail(b"tdd: cannot open ", &path[..n]);
+        fail(b"tdd: cannot open ", name);
         return true;
     }
-    let goes_on = ended(scripts::answer_all(fd, forms), &path[..n]);
+    let goes_on = ended(scripts::answer_all(fd, forms), name);
     libc::close(fd);
     goes_on
 }

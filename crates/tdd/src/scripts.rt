@@ -1,6 +1,6 @@
 // A script from its first line to its last.
 use crate::calls;
-use crate::calls::Next;
+use crate::calls::Now;
 use bench::Bench;
 use bench_lines::State;
 use script::memory;
@@ -11,7 +11,6 @@ use text::answers::FAILED;
 use text::lines;
 use text::lines::Buffer;
 use text::lines::Step;
-use text::words;
 
 // How a run ended; where a read or a write failed, errno says why.
 pub enum Ending {
@@ -20,32 +19,11 @@ pub enum Ending {
     NotWritten,
 }
 
-// Answers line number `at`, buf[from..to].
-fn answer_line(
-    forms: &[u8],
-    buf: &[u8],
-    from: usize,
-    to: usize,
-    at: u64,
-    s: State,
-    out: &mut Answers,
-    n: usize,
-    m: &mut Memory,
-) -> Next {
-    calls::answer(forms, words::part(buf, from, to), at, s, out, n, m)
-}
-
 // Answers each line of the input. A proved loop has to end, and nothing says that the input does, so the loop counts its turns
 // down, from a number that no run uses up.
 fn run(fd: i32, forms: &[u8], buf: &mut Buffer, out: &mut Answers, m: &mut Memory) -> Ending {
-    let mut state = State {
-        bench: Bench::fresh(),
-        chips: 0,
-        readings: 0,
-        brief: false,
-    };
+    let mut now = fresh();
     let mut input = lines::first(fd);
-    let mut n: usize = 0;
     let mut at: u64 = 1;
     let mut turns = u64::MAX;
     while turns > 0 {
@@ -53,14 +31,12 @@ fn run(fd: i32, forms: &[u8], buf: &mut Buffer, out: &mut Answers, m: &mut Memor
         match lines::advance(buf, input) {
             Step::Line(from, to, next) => {
                 input = next;
-                let done = answer_line(forms, buf, from, to, at, state, out, n, m);
-                state = done.state;
-                n = done.n;
+                now = calls::answer(forms, buf, from, to, at, now, out, m);
                 at = std::num::wrapping_add_u64(at, 1);
             }
             Step::Short(next) => {
-                n = answers::flush(out, n);
-                if n == FAILED {
+                now.n = answers::flush(out, now.n);
+                if now.n == FAILED {
                     return Ending::NotWritten;
                 }
                 let filled = lines::fill(buf, next);
@@ -70,7 +46,7 @@ fn run(fd: i32, forms: &[u8], buf: &mut Buffer, out: &mut Answers, m: &mut Memor
                 input = filled.input;
             }
             Step::End => {
-                if answers::flush(out, n) == FAILED {
+                if answers::flush(out, now.n) == FAILED {
                     return Ending::NotWritten;
                 }
                 return Ending::Whole;
@@ -78,6 +54,17 @@ fn run(fd: i32, forms: &[u8], buf: &mut Buffer, out: &mut Answers, m: &mut Memor
         }
     }
     Ending::Whole
+}
+
+// A fresh bench, an empty recording, no readings, lines in full and no answers.
+fn fresh() -> Now {
+    let state = State {
+        bench: Bench::fresh(),
+        chips: 0,
+        readings: 0,
+        brief: false,
+    };
+    Now { state, n: 0 }
 }
 
 // Answers a script with buffers and a memory of its own; a run takes some 800 KB of the stack.

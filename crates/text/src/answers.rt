@@ -50,7 +50,7 @@ fn wide(x: u32) -> u64 {
     x as u64
 }
 
-pub fn natural(out: &mut Answers, n: usize, x: u32) -> usize {
+fn natural(out: &mut Answers, n: usize, x: u32) -> usize {
     number(out, n, wide(x))
 }
 
