@@ -23,7 +23,7 @@ pub struct Line {
     pub numbers: Numbers,
 }
 
-// A line with no word has row 0, and no fault.
+// A line with no word has row 0, and no fault; one of ROOM bytes is too long.
 pub fn parsed(forms: &[u8], line: &[u8]) -> Line {
     if line.len() >= ROOM {
         return Line {
