@@ -18,6 +18,7 @@ sys.dont_write_bytecode = True  # so that the imports leave no files behind
 from families.bursts import bursts
 from families.calls import calls
 from families.codes import codes
+from families.cut_numbers import cut_numbers
 from families.faults import faults
 from families.finding import finding
 from families.plans import plans
@@ -37,6 +38,7 @@ SCRIPTS = {
     "bursts.txt": bursts,
     "finding.txt": finding,
     "calls.txt": calls,
+    "cut-numbers.txt": cut_numbers,
     "faults.txt": faults,
     **{f"random-{n}.txt": random_lines(80 + n) for n in (1, 2, 3, 4)},
 }

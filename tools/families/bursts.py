@@ -18,7 +18,9 @@ PARTS = ((5, 0), (0, 5))  # gP and gS
 
 # Case, then group, frame and half of the one burst and of the other, then gP and gS.
 TWO = ((1, 7, 1, 0, 7, 2, 0, 3, 5), (1, 7, 1, 0, 9, 1, 0, 3, 5),
-       (2, 20, 1, 0, 20, 1, 1, 3, 5), (2, 20, 1, 0, 21, 2, 1, 3, 5))
+       (2, 20, 1, 0, 20, 1, 1, 3, 5), (2, 20, 1, 0, 21, 2, 1, 3, 5),
+       (1, 30, 2, 0, 31, 2, 0, 5, 3), (2, 0, 1, 0, 31, 2, 1, 5, 3))
+LOUD = 70000, 10000  # gP and gS of bursts with components of up to 100000
 
 # Case; chips; the one chip that is not 0: its place, its re and its im.
 EDGES = (
@@ -81,6 +83,11 @@ def two_at_once(script):
         record_and_read(script, case, chips)
 
 
+def loudest(script):
+    for case, group in ((1, 0), (1, 31), (2, 0), (2, 31)):
+        record_and_read(script, case, burst(script.codes, (case, group, 1, 0), *LOUD))
+
+
 def edges(script):
     for case, length, *chip in rows(EDGES):
         script.one_chip(length, *chip)
@@ -89,6 +96,6 @@ def edges(script):
 
 def bursts(script):
     script.tell(brief=True)
-    for family in (every_burst, noise_alone, nothing_or_parts, two_at_once, edges):
+    for family in (every_burst, noise_alone, nothing_or_parts, two_at_once, loudest, edges):
         script.say(family.__name__.replace("_", " "))
         family(script)

@@ -1,5 +1,6 @@
 """finding.txt: find in recordings of many lengths, with no burst, one or two, and at its edges."""
 
+from reference.analyser import LARGEST
 from reference.slot import burst
 
 from .readings import rows
@@ -63,8 +64,26 @@ def edges(script):
         script.run(f"find 0 {length}")
 
 
+def largest_signals(script):
+    """The primary code as large as chips may be, whose size is the largest of all; and chips with
+    components of 100000 or its negative, by a rule and by the signs of bursts."""
+    re, im = script.codes.primary
+    chips = [(LARGEST * x, LARGEST * y) for x, y in zip(re, im)]
+    script.run("erase", chips_line(chips), "find 0 256, read-sync 1 0 256, read-sync 2 0 256",
+               "silence 3, find 0 259, erase", chips_line([(-x, -y) for x, y in chips]),
+               "find 0 256")
+    for case, group in ((1, 0), (1, 13), (1, 31), (2, 6), (2, 31)):
+        sent = zip(*burst(script.codes, (case, group, 1, 0), 1, 1))
+        script.run("erase", chips_line([(at_largest(x), at_largest(y)) for x, y in sent]),
+                   "find 0 256, read-sync 1 0 256, read-sync 2 0 256")
+
+
+def at_largest(component):
+    return LARGEST if component > 0 else -LARGEST
+
+
 def finding(script):
     script.tell(brief=True)
-    for family in (recordings, slots_of_the_bench, edges):
+    for family in (recordings, slots_of_the_bench, edges, largest_signals):
         script.say(family.__name__.replace("_", " "))
         family(script)
