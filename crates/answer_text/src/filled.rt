@@ -91,10 +91,11 @@ fn is_next(b: u8) -> bool {
 
 // The number that a byte of a row stands for; number `at` of the sentence is the next one.
 fn number(b: u8, at: usize, s: Sentence, c: Context) -> u64 {
+    let r = c.recording;
     match b {
         b'!' => c.at,
-        b'&' => c.chips as u64,
-        b'^' => std::num::wrapping_sub_usize(CHIPS, c.chips) as u64,
+        b'&' => r.chips as u64,
+        b'^' => std::num::wrapping_sub_usize(CHIPS, r.chips) as u64,
         _ => match at {
             0 => s.x,
             1 => s.y,

@@ -1,4 +1,5 @@
 // A line's answer as text.
+use recording_lines::Recording;
 use script::answer::LineAnswer;
 use script::forms::Form;
 use script::memory::Memory;
@@ -10,12 +11,11 @@ mod filled;
 mod lists;
 mod sentences;
 
-// Where the answer is due: the line's number in the script, its form, how many chips the recording has, and whether long lines are told in brief.
+// Where the answer is due: the line's number in the script, its form, and the recording that it found.
 pub struct Context {
     pub at: u64,
     pub form: Form,
-    pub chips: usize,
-    pub brief: bool,
+    pub recording: Recording,
 }
 
 // Writes the answer of a line. The forms are for help and for what would be right, the memory has the values of long lines.
@@ -34,7 +34,8 @@ pub fn print(
         _ => {
             let list = lists::of_answer(a);
             if list.kind != lists::NONE {
-                return lists::print(out, n, list, m, c.brief);
+                let r = c.recording;
+                return lists::print(out, n, list, m, r.brief);
             }
             let s = sentences::of_answer(a);
             let form = c.form;

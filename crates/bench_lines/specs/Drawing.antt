@@ -12,7 +12,9 @@ use Rattle.bench_lines.specs.declared.State.{State}
 
 -- "puts the chips at the end of the recording"; where they do not fit, nothing changes, and the bench stays as it was before the draw
 abbrev pub kept : State → Bench → ℕ → State
-kept s b count = cond (fit (s .chips) count) (record { bench = b; chips = s .chips + count; readings = s .readings; brief = s .brief }) s
+kept s b count =
+    let r = s .recording in
+    cond (fit (r .chips) count) (record { bench = b; recording = record { chips = r .chips + count; readings = r .readings; brief = r .brief } }) s
 
 -- a refused draw changes nothing, however full the recording is
 abbrev pub after-draw : State → Answer AcceptedDraw → State
@@ -21,7 +23,7 @@ after-draw s (gives d) = kept s (d .bench) (d .count)
 
 -- "`ok COUNT`"; a draw whose chips do not fit is no call
 abbrev pub answer-of-count : State → ℕ → LineAnswer
-answer-of-count s count = cond (fit (s .chips) count) (Counted count) (Wrong (Full count))
+answer-of-count s count = cond (fit (s .recording .chips) count) (Counted count) (Wrong (Full count))
 
 -- "or `refused N`"
 abbrev pub draw-answer : State → Answer AcceptedDraw → LineAnswer

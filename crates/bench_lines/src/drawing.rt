@@ -11,6 +11,7 @@ use crate::State;
 use bench::Bench;
 use bench::DrawAnswer;
 use bench::Drawn;
+use recording_lines::Recording;
 use script::answer::LineAnswer;
 use script::faults::Fault;
 use script::memory;
@@ -64,12 +65,16 @@ fn drew(s: State, b: Bench, count: usize) -> Left
     ensures state { λ r. ⌜ r .state ≡ kept s b count ⌝ }
     ensures answer { λ r. ⌜ r .answer ≡ answer-of-count s count ⌝ }
 {
-    if fits(s.chips, count) {
+    let r = s.recording;
+    if fits(r.chips, count) {
+        let recording = Recording {
+            chips: r.chips + count,
+            readings: r.readings,
+            brief: r.brief,
+        };
         let next = State {
             bench: b,
-            chips: s.chips + count,
-            readings: s.readings,
-            brief: s.brief,
+            recording,
         };
         return Left {
             state: next,
@@ -98,7 +103,8 @@ pub fn draw(s: State, n: u32, m: u32, memory: &mut Memory) -> Left
             answer: LineAnswer::Refused(number),
         },
         DrawAnswer::Drew(count) => {
-            append(memory, s.chips, &re, &im, count);
+            let r = s.recording;
+            append(memory, r.chips, &re, &im, count);
             let next = d.bench;
             drew(s, next, count)
         }

@@ -1,4 +1,4 @@
-// The bench's calls from a line.
+// The bench's calls from a line, and what every line leaves; calls that leave the bench alone are handed on.
 use bench::Answered;
 use bench::Bench;
 use bench::CallAnswer;
@@ -7,8 +7,10 @@ use bench::PlanAnswer;
 use bench::PlanRecords;
 use bench::Planned;
 use codes::CellParameter;
+use recording_lines::Recording;
 use script::answer::LineAnswer;
 use script::arguments;
+use script::arguments::Numbers;
 use script::bits;
 use script::faults::Fault;
 use script::memory::Memory;
@@ -27,13 +29,10 @@ use text::words;
 
 mod drawing;
 
-// What a line finds and leaves: the bench, how many chips the recording has, how many readings the last accepted read gave, and whether long lines are told in
-// brief.
+// What a line finds and leaves.
 pub struct State {
     pub bench: Bench,
-    pub chips: usize,
-    pub readings: usize,
-    pub brief: bool,
+    pub recording: Recording,
 }
 
 // What a line leaves, and what it is answered.
@@ -42,11 +41,35 @@ pub struct Left {
     pub answer: LineAnswer,
 }
 
-// The call with this row and these numbers; what follows them in the line begins at `rest`.
-pub fn call(row: usize, x: [u32; 5], line: &[u8], rest: usize, s: State, m: &mut Memory) -> Left {
-    if row == DRAW {
-        return drawing::draw(s, x[0], x[1], m);
+// The call with this row and these numbers, or what is wrong with them. Rows past DRAW leave the bench alone, and so does row 0, that of a line with no word.
+pub fn call(row: usize, numbers: Numbers, line: &[u8], s: State, m: &mut Memory) -> Left {
+    let fault = numbers.fault;
+    let x = numbers.x;
+    match fault {
+        Fault::None => {
+            if row == DRAW {
+                return drawing::draw(s, x[0], x[1], m);
+            }
+            if 0 < row && row < DRAW {
+                return of_bench(row, x, line, numbers.rest, s);
+            }
+            let bench = s.bench;
+            let old = s.recording;
+            let r = recording_lines::call(row, x, line, old, m);
+            let recording = r.recording;
+            let answer = r.answer;
+            let state = State { bench, recording };
+            Left { state, answer }
+        }
+        _ => Left {
+            state: s,
+            answer: LineAnswer::Wrong(fault),
+        },
     }
+}
+
+// A call that changes settings or starts a slot; what follows its numbers in the line begins at `rest`.
+fn of_bench(row: usize, x: [u32; 5], line: &[u8], rest: usize, s: State) -> Left {
     let b = s.bench;
     let left = match row {
         LOAD_PLAN => load_plan(b, plans::records(line, rest)),
@@ -54,13 +77,9 @@ pub fn call(row: usize, x: [u32; 5], line: &[u8], rest: usize, s: State, m: &mut
         _ => changed(numbered(row, x, b)),
     };
     let bench = left.bench;
+    let recording = s.recording;
     let answer = left.answer;
-    let state = State {
-        bench,
-        chips: s.chips,
-        readings: s.readings,
-        brief: s.brief,
-    };
+    let state = State { bench, recording };
     Left { state, answer }
 }
 
@@ -77,7 +96,7 @@ fn no_call(bench: Bench, fault: Fault) -> BenchLeft {
     }
 }
 
-// A call that takes numbers alone; START is the row that is left, for `tdd` hands on rows 1 to DRAW and no others.
+// A call that takes numbers alone; START is the row that is left.
 fn numbered(row: usize, x: [u32; 5], b: Bench) -> Answered {
     let first = x[0];
     let second = x[1];

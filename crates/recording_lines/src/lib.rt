@@ -15,26 +15,54 @@ use script::rows::RECORD;
 use script::rows::SHOW;
 use script::rows::SILENCE;
 
+mod appending;
 mod noise;
 mod reading;
-mod recording;
 mod sync;
 
-// The call with this row and these numbers; row 0 is that of a line with no word. The recording has so many chips, and the last accepted read gave so many readings.
-pub fn call(
-    row: usize,
-    x: [u32; 5],
-    line: &[u8],
-    chips: usize,
-    readings: usize,
-    m: &mut Memory,
-) -> LineAnswer {
+// What lines find and leave beside the bench: how many chips the recording has, how many readings the last accepted read gave, and whether long lines are told
+// in brief.
+pub struct Recording {
+    pub chips: usize,
+    pub readings: usize,
+    pub brief: bool,
+}
+
+// What a line leaves of it, and what the line is answered.
+pub struct Recorded {
+    pub recording: Recording,
+    pub answer: LineAnswer,
+}
+
+// The call with this row and these numbers; row 0 is that of a line with no word.
+pub fn call(row: usize, x: [u32; 5], line: &[u8], r: Recording, m: &mut Memory) -> Recorded {
+    let answer = answered(row, x, line, r, m);
+    let mut recording = r;
+    match answer {
+        LineAnswer::Recorded(count) => {
+            recording.chips = std::num::wrapping_add_usize(r.chips, count);
+        }
+        LineAnswer::Erased => {
+            recording.chips = 0;
+        }
+        LineAnswer::Readings(count) => {
+            recording.readings = count;
+        }
+        LineAnswer::Brief(brief) => {
+            recording.brief = brief;
+        }
+        _ => {}
+    }
+    Recorded { recording, answer }
+}
+
+fn answered(row: usize, x: [u32; 5], line: &[u8], r: Recording, m: &mut Memory) -> LineAnswer {
     match row {
         0 => LineAnswer::Nothing,
-        RECORD => recording::record(line, chips, m),
-        SILENCE => recording::silence(x[0], chips, m),
+        RECORD => appending::record(line, r.chips, m),
+        SILENCE => appending::silence(x[0], r.chips, m),
         ERASE => LineAnswer::Erased,
-        HARDEN => reading::harden(readings, m),
+        HARDEN => reading::harden(r.readings, m),
         BRIEF => LineAnswer::Brief(true),
         FULL => LineAnswer::Brief(false),
         HELP => LineAnswer::Help,
@@ -42,7 +70,7 @@ pub fn call(
             if row > FIND {
                 return code_lines::call(row, x, m);
             }
-            of_part(row, x, chips, m)
+            of_part(row, x, r.chips, m)
         }
     }
 }

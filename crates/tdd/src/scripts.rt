@@ -3,6 +3,7 @@ use crate::calls;
 use crate::calls::Now;
 use bench::Bench;
 use bench_lines::State;
+use recording_lines::Recording;
 use script::memory;
 use script::memory::Memory;
 use text::answers;
@@ -58,11 +59,14 @@ fn run(fd: i32, forms: &[u8], buf: &mut Buffer, out: &mut Answers, m: &mut Memor
 
 // A fresh bench, an empty recording, no readings, lines in full and no answers.
 fn fresh() -> Now {
-    let state = State {
-        bench: Bench::fresh(),
+    let recording = Recording {
         chips: 0,
         readings: 0,
         brief: false,
+    };
+    let state = State {
+        bench: Bench::fresh(),
+        recording,
     };
     Now { state, n: 0 }
 }

@@ -11,16 +11,16 @@ use Rattle.bench_lines.proofs.drawing.drew.Statement.{statement}
 use Rattle.bench_lines.proofs.drawing.drew.Tie as tie
 
 -- the test on the way to where the chips fit, and to where they do not
-does-fit : (c : tie.Then1) → let s = c .before .before .args in fit (s .s .chips) (s .count) ≡ true
+does-fit : (c : tie.Then1) → let s = c .before .before .before .args in fit (s .s .recording .chips) (s .count) ≡ true
 does-fit c = sym (c .before .fits2 .ensures) ∙ c .if1 .taken
 
-does-not : (c : tie.Else1) → let s = c .before .before .args in fit (s .s .chips) (s .count) ≡ false
+does-not : (c : tie.Else1) → let s = c .before .before .before .args in fit (s .s .recording .chips) (s .count) ≡ false
 does-not c = sym (c .before .fits2 .ensures) ∙ c .if1 .left
 
-add-t6 : tie.Need-add-t6
-add-t6 c =
-    let s = c .before .before .before .args in
-    let h = leb-true (s .s .chips + s .count) 38400 (does-fit (c .before)) in
+add-t8 : tie.Need-add-t8
+add-t8 c =
+    let s = c .before .before .before .before .args in
+    let h = leb-true (s .s .recording .chips + s .count) 38400 (does-fit (c .before)) in
     record { fits = lt-of-le-of-lt h (lit< tt) }
 
 returns : tie.Need-returns
@@ -30,4 +30,4 @@ returns-2 : tie.Need-returns-2
 returns-2 c = rw (does-not c) (refl, refl)
 
 pub drew-spec : {M : Type 1} → statement M
-drew-spec = tie.close (tie.spec (λ c κs. search needs) add-t6 returns returns-2)
+drew-spec = tie.close (tie.spec (λ c κs. search needs) add-t8 returns returns-2)

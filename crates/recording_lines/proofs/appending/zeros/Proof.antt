@@ -1,8 +1,8 @@
 -- `zeros` is safe, and ends: with each turn fewer chips are left. Assumes nothing.
 use Prim.Native.Nat.{_-_}
 use borrow.Author.Needs.{needs}
-use Rattle.recording_lines.proofs.recording.zeros.Statement.{statement}
-use Rattle.recording_lines.proofs.recording.zeros.Tie as tie
+use Rattle.recording_lines.proofs.appending.zeros.Statement.{statement}
+use Rattle.recording_lines.proofs.appending.zeros.Tie as tie
 
 pub zeros-spec : {M : Type 1} → statement M
 zeros-spec =

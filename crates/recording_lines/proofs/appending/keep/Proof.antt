@@ -1,8 +1,8 @@
 -- `keep` is safe, and ends: with each turn there is less room. Assumes nothing.
 use Prim.Native.Nat.{_-_}
 use borrow.Author.Needs.{needs}
-use Rattle.recording_lines.proofs.recording.keep.Statement.{statement}
-use Rattle.recording_lines.proofs.recording.keep.Tie as tie
+use Rattle.recording_lines.proofs.appending.keep.Statement.{statement}
+use Rattle.recording_lines.proofs.appending.keep.Tie as tie
 
 pub keep-spec : {M : Type 1} → statement M
 keep-spec =
