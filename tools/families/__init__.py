@@ -12,6 +12,7 @@
     finding      finding.txt: find
     calls        calls.txt: every call with its refusals and edges, from bench_calls,
                  analyser_calls and recording_calls
+    cut_numbers  cut-numbers.txt: numbers that would be good if they were cut
     faults       faults.txt: lines that are no call, from word_faults and need_faults
     random_lists random-N.txt: long lists with some of everything
 

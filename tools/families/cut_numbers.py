@@ -1,6 +1,6 @@
 """cut-numbers.txt: calls of which one number is good again once it is cut to 8, 16, 24 or 31 bits.
 
-A script that drops the upper bits of a number would take it for the good one.
+A program that drops the upper bits of a number would take it for the good one.
 """
 
 from .script import open_loaded, spelled

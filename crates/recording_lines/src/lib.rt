@@ -16,7 +16,6 @@ use script::rows::SHOW;
 use script::rows::SILENCE;
 
 mod appending;
-mod noise;
 mod reading;
 mod sync;
 
@@ -29,13 +28,13 @@ pub struct Recording {
 }
 
 // What a line leaves of it, and what the line is answered.
-pub struct Recorded {
+pub struct RecordingLeft {
     pub recording: Recording,
     pub answer: LineAnswer,
 }
 
 // The call with this row and these numbers; row 0 is that of a line with no word.
-pub fn call(row: usize, x: [u32; 5], line: &[u8], r: Recording, m: &mut Memory) -> Recorded {
+pub fn call(row: usize, x: [u32; 5], line: &[u8], r: Recording, m: &mut Memory) -> RecordingLeft {
     let answer = answered(row, x, line, r, m);
     let mut recording = r;
     match answer {
@@ -53,7 +52,7 @@ pub fn call(row: usize, x: [u32; 5], line: &[u8], r: Recording, m: &mut Memory) 
         }
         _ => {}
     }
-    Recorded { recording, answer }
+    RecordingLeft { recording, answer }
 }
 
 fn answered(row: usize, x: [u32; 5], line: &[u8], r: Recording, m: &mut Memory) -> LineAnswer {

@@ -1,5 +1,6 @@
-// The program tdd: runs scripts of bench and analyser calls. docs/TDD.md is its manual.
-use scripts::Ending;
+// The program tdd: runs scripts of calls of bench, analyser and code rules. docs/TDD.md is its manual.
+use text::files;
+use text::files::Ending;
 
 mod calls;
 mod scripts;
@@ -50,7 +51,7 @@ help                            # this list
 fn program(forms: &[u8]) {
     let count = os::arg_count();
     if count < 2 {
-        ended(scripts::answer_all(0, forms), b"standard input");
+        files::ended(scripts::answer_all(0, forms), b"standard input");
         return;
     }
     for i in 1..count {
@@ -60,34 +61,12 @@ fn program(forms: &[u8]) {
     }
 }
 
-// Says what failed, and why, on standard error. The program has no exit status: the command ./tdd gives it a descriptor 3 for that.
-fn fail(what: &[u8], name: &[u8]) {
-    io::write_all(2, what);
-    os::fail(name);
-    io::write_all(3, b"failed\n");
-}
-
-// Tells how a script's run ended, and answers whether the next script can be run.
-fn ended(ending: Ending, name: &[u8]) -> bool {
-    match ending {
-        Ending::Whole => true,
-        Ending::NotRead => {
-            fail(b"tdd: cannot read ", name);
-            true
-        }
-        Ending::NotWritten => {
-            fail(b"tdd: cannot write ", b"the answers");
-            false
-        }
-    }
-}
-
 // Answers the script that argument i names, and whether the next one can be run.
 fn answer_argument(i: usize, several: bool, forms: &[u8]) -> bool {
     let mut path = io::buffer();
     let n = os::arg(i, &mut path);
     if os::errno() != 0 {
-        fail(b"tdd: cannot open ", b"a script");
+        files::fail(b"tdd: cannot open ", b"a script");
         return true;
     }
     answer_file(&path[..n], several, forms)
@@ -95,25 +74,14 @@ fn answer_argument(i: usize, several: bool, forms: &[u8]) -> bool {
 
 // Answers the script with this name, and whether the next one can be run. Where there are several it says first which.
 fn answer_file(name: &[u8], several: bool, forms: &[u8]) -> bool {
-    if several && !heading(name) {
-        return ended(Ending::NotWritten, b"");
+    if several && !files::heading(name) {
+        return files::ended(Ending::NotWritten, name);
     }
-    let fd = os::open_read(name);
+    let fd = files::opened(name);
     if fd < 0 {
-        fail(b"tdd: cannot open ", name);
         return true;
     }
-    let goes_on = ended(scripts::answer_all(fd, forms), name);
+    let goes_on = files::ended(scripts::answer_all(fd, forms), name);
     libc::close(fd);
     goes_on
-}
-
-fn heading(name: &[u8]) -> bool {
-    if !io::write_all(1, b"==> ") {
-        return false;
-    }
-    if !io::write_all(1, name) {
-        return false;
-    }
-    io::write_all(1, b" <==\n")
 }

@@ -8,17 +8,12 @@ use script::memory;
 use script::memory::Memory;
 use text::answers;
 use text::answers::Answers;
-use text::answers::FAILED;
+use text::files;
+use text::files::Ending;
 use text::lines;
 use text::lines::Buffer;
+use text::lines::Refilled;
 use text::lines::Step;
-
-// How a run ended; where a read or a write failed, errno says why.
-pub enum Ending {
-    Whole,
-    NotRead,
-    NotWritten,
-}
 
 // Answers each line of the input. A proved loop has to end, and nothing says that the input does, so the loop counts its turns
 // down, from a number that no run uses up.
@@ -35,23 +30,14 @@ fn run(fd: i32, forms: &[u8], buf: &mut Buffer, out: &mut Answers, m: &mut Memor
                 now = calls::answer(forms, buf, from, to, at, now, out, m);
                 at = std::num::wrapping_add_u64(at, 1);
             }
-            Step::Short(next) => {
-                now.n = answers::flush(out, now.n);
-                if now.n == FAILED {
-                    return Ending::NotWritten;
+            Step::Short(next) => match lines::refill(buf, out, now.n, next) {
+                Refilled::Has(more) => {
+                    input = more;
+                    now.n = 0;
                 }
-                let filled = lines::fill(buf, next);
-                if filled.failed {
-                    return Ending::NotRead;
-                }
-                input = filled.input;
-            }
-            Step::End => {
-                if answers::flush(out, now.n) == FAILED {
-                    return Ending::NotWritten;
-                }
-                return Ending::Whole;
-            }
+                Refilled::Not(ending) => return ending,
+            },
+            Step::End => return files::last(out, now.n),
         }
     }
     Ending::Whole

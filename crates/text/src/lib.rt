@@ -1,6 +1,7 @@
-// Text: lines that are read in pieces, words, numbers, and a buffer for what is written.
+// Text: lines that are read in pieces, words, numbers, a buffer for what is written, files by name.
 pub mod answers;
 pub mod complement;
+pub mod files;
 pub mod lines;
 pub mod numbers;
 pub mod words;

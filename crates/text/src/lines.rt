@@ -1,4 +1,8 @@
 // The lines of an input that is read in pieces. A line has at most 65,536 bytes; a longer one is cut after one byte more, and what follows is dropped.
+use crate::answers;
+use crate::answers::Answers;
+use crate::answers::FAILED;
+use crate::files::Ending;
 
 // One byte more than the longest line, for its line end.
 pub const ROOM: usize = 65537;
@@ -23,10 +27,10 @@ pub enum Step {
     End,
 }
 
-pub struct Filled {
+struct Filled {
     // A read failed; errno says why.
-    pub failed: bool,
-    pub input: Input,
+    failed: bool,
+    input: Input,
 }
 
 pub fn first(fd: i32) -> Input {
@@ -92,7 +96,7 @@ enum Got {
 }
 
 // Reads once, past the bytes that wait.
-pub fn fill(buf: &mut Buffer, input: Input) -> Filled {
+fn fill(buf: &mut Buffer, input: Input) -> Filled {
     let to = input.to;
     let mut next = input;
     match read_at(input.fd, buf, to) {
@@ -115,6 +119,25 @@ pub fn fill(buf: &mut Buffer, input: Input) -> Filled {
             }
         }
     }
+}
+
+// What waits after one more read; or why there is none.
+pub enum Refilled {
+    Has(Input),
+    Not(Ending),
+}
+
+// Writes the n bytes of answers that wait, so that they come before the next line is waited for, and reads once.
+pub fn refill(buf: &mut Buffer, out: &Answers, n: usize, input: Input) -> Refilled {
+    if answers::flush(out, n) == FAILED {
+        return Refilled::Not(Ending::NotWritten);
+    }
+    let filled = fill(buf, input);
+    if filled.failed {
+        return Refilled::Not(Ending::NotRead);
+    }
+    let next = filled.input;
+    Refilled::Has(next)
 }
 
 // Drops what waits of a line that is too long.

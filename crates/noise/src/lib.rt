@@ -1,4 +1,4 @@
-// Noise on a part of the recording. docs/TDD.md has the generator's rule.
+// Noise on a part of the recording, from a generator whose rule docs/TDD.md has in full.
 use script::answer::LineAnswer;
 use script::faults::Fault;
 use script::memory;
