@@ -15,5 +15,5 @@ lib/lib%.a: crates.txt $(shell find crates -path '*/src/*' -o -path '*/specs/*' 
 	@rt staticlib $* >target/$*.log 2>&1 || { tail -n 5 target/$*.log >&2; echo "make: $@ is not proved; target/$*.log says why" >&2; exit 1; }
 	@cp target/staticlib/lib$*.a $@
 
-benchmark: libraries lib/libtdd_parts.a
+benchmark: libraries lib/libtables.a
 	@cd host && cargo bench --quiet --bench benchmark

@@ -49,8 +49,7 @@ line !: the line has more than 65536 bytes; right is: at most 65536
         s.row,
     );
     let w = s.word;
-    let m = filled(out, n, row, s, c, words::part(line, w.from, w.to), form);
-    answers::byte(out, m, b'\n')
+    filled(out, n, row, s, c, words::part(line, w.from, w.to), form)
 }
 
 // The row with its numbers and words.
@@ -68,7 +67,7 @@ fn filled(
     for i in 0..row.len() {
         let b = row[i];
         m = match b {
-            b'\'' => quoted(out, m, word),
+            b'\'' => answers::quoted(out, m, word),
             b'@' => answers::text(out, m, words::part(form, 0, forms::end(form))),
             _ => item(out, m, b, number(b, at, s, c)),
         };
@@ -126,36 +125,4 @@ fn sent(out: &mut Answers, n: usize, x: u64) -> usize {
         _ => n,
     };
     answers::counted(out, m, b"C", x / 4)
-}
-
-// The word between quotes, its first 32 bytes.
-fn quoted(out: &mut Answers, n: usize, word: &[u8]) -> usize {
-    let mut m = answers::byte(out, n, b'\'');
-    m = shown(out, m, word);
-    if word.len() > 32 {
-        m = answers::text(out, m, b"...");
-    }
-    answers::byte(out, m, b'\'')
-}
-
-fn shown(out: &mut Answers, n: usize, word: &[u8]) -> usize {
-    let mut m = n;
-    for i in 0..32 {
-        if i >= word.len() {
-            break;
-        }
-        m = answers::byte(out, m, printing(word[i]));
-    }
-    m
-}
-
-// b, or `?` where it is no printing ASCII character.
-fn printing(b: u8) -> u8 {
-    if b < 33 {
-        return b'?';
-    }
-    if b > 126 {
-        return b'?';
-    }
-    b
 }

@@ -33,13 +33,15 @@ pub fn print(
         LineAnswer::Help => answers::text(out, n, forms),
         _ => {
             let list = lists::of_answer(a);
-            if list.kind != lists::NONE {
+            let k = if list.kind != lists::NONE {
                 let r = c.recording;
-                return lists::print(out, n, list, m, r.brief);
-            }
-            let s = sentences::of_answer(a);
-            let form = c.form;
-            filled::print(out, n, s, c, words::part(forms, form.from, form.to), line)
+                lists::print(out, n, list, m, r.brief)
+            } else {
+                let s = sentences::of_answer(a);
+                let form = c.form;
+                filled::print(out, n, s, c, words::part(forms, form.from, form.to), line)
+            };
+            answers::byte(out, k, b'\n')
         }
     }
 }

@@ -67,8 +67,7 @@ pub fn print(out: &mut Answers, n: usize, l: List, m: &Memory, brief: bool) -> u
     if brief && l.kind != ELEMENTS {
         return in_brief(out, k, l.kind, re, im);
     }
-    k = row(out, k, l.kind, re, im, l.count);
-    answers::byte(out, k, b'\n')
+    row(out, k, l.kind, re, im, l.count)
 }
 
 // The count, the first values and the checksum.
@@ -79,8 +78,7 @@ fn in_brief(out: &mut Answers, n: usize, kind: usize, re: &[i32], im: &[i32]) ->
     if re.len() > 0 {
         k = answers::byte(out, k, b' ');
     }
-    k = answers::counted(out, k, b"checksum ", checksum(re, im) as u64);
-    answers::byte(out, k, b'\n')
+    answers::counted(out, k, b"checksum ", checksum(re, im) as u64)
 }
 
 // The first `most` values, a blank between, but not between bits.

@@ -9,9 +9,9 @@ use bench::Planned;
 use codes::CellParameter;
 use recording_lines::Recording;
 use script::answer::LineAnswer;
-use script::arguments;
 use script::arguments::Numbers;
 use script::bits;
+use script::bits::Bits;
 use script::faults::Fault;
 use script::memory::Memory;
 use script::plans;
@@ -73,7 +73,7 @@ fn of_bench(row: usize, x: [u32; 5], line: &[u8], rest: usize, s: State) -> Left
     let b = s.bench;
     let left = match row {
         LOAD_PLAN => load_plan(b, plans::records(line, rest)),
-        LOAD_BITS => load_bits(b, x[0], x[1], line, rest),
+        LOAD_BITS => load_bits(b, x[0], x[1], bits::digits(line, rest)),
         _ => changed(numbered(row, x, b)),
     };
     let bench = left.bench;
@@ -122,14 +122,8 @@ fn changed(r: Answered) -> BenchLeft {
     BenchLeft { bench, answer }
 }
 
-// The bits are the word at or after `at`; none is no bits.
-fn load_bits(b: Bench, q: u32, k: u32, line: &[u8], at: usize) -> BenchLeft {
-    let w = words::next(line, at);
-    let bits = bits::digits(words::part(line, w.from, w.to));
-    if !bits.right {
-        return no_call(b, Fault::NoBits(w));
-    }
-    let fault = arguments::extra(line, w.to);
+fn load_bits(b: Bench, q: u32, k: u32, bits: Bits) -> BenchLeft {
+    let fault = bits.fault;
     match fault {
         Fault::None => {
             let bytes = bits.bytes;

@@ -2,6 +2,7 @@
 use script::answer::LineAnswer;
 use script::faults::Fault;
 use script::memory::Memory;
+use script::noise;
 use script::rows::BRIEF;
 use script::rows::ERASE;
 use script::rows::FIND;

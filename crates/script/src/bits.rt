@@ -1,30 +1,36 @@
-// A word of digits as bytes, one a digit.
+// The bits of a load, one word of digits.
+use crate::arguments;
+use crate::faults::Fault;
 use text::numbers;
+use text::words;
 
 // As long as the longest line.
 const ROOM: usize = 65536;
 
-// Whether the word has digits alone, and their values.
+// The values of the digits; or what is wrong.
 pub struct Bits {
-    pub right: bool,
+    pub fault: Fault,
     pub count: usize,
     pub bytes: [u8; ROOM],
 }
 
-pub fn digits(w: &[u8]) -> Bits {
+// The bits of a line, its word at or after `at`; none is no bits.
+pub fn digits(line: &[u8], at: usize) -> Bits {
+    let w = words::next(line, at);
+    let word = words::part(line, w.from, w.to);
+    let mut fault = arguments::extra(line, w.to);
     let mut bytes = [0u8; ROOM];
-    let mut right = true;
-    for i in 0..w.len() {
-        let d = numbers::digit(w[i]);
+    for i in 0..word.len() {
+        let d = numbers::digit(word[i]);
         if d > 9 || i >= ROOM {
-            right = false;
+            fault = Fault::NoBits(w);
             break;
         }
         bytes[i] = d as u8;
     }
     Bits {
-        right,
-        count: w.len(),
+        fault,
+        count: word.len(),
         bytes,
     }
 }

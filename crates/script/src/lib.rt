@@ -5,5 +5,6 @@ pub mod bits;
 pub mod faults;
 pub mod forms;
 pub mod memory;
+pub mod noise;
 pub mod plans;
 pub mod rows;

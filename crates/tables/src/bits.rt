@@ -12,3 +12,11 @@ pub fn has_byte_above_1(bits: &[u8]) -> bool
     }
     found
 }
+
+// The same test for the benchmark, which times it by itself: no host's call.
+#[no_mangle]
+pub extern "C" fn tdd_has_byte_above_1(bits: &[u8]) -> bool
+    ensures { λ r. ⌜ r ≡ has-byte-above-1 (now (bits .entry)) ⌝ }
+{
+    has_byte_above_1(bits)
+}

@@ -68,3 +68,35 @@ pub fn counted(out: &mut Answers, n: usize, s: &[u8], x: u64) -> usize {
     let m = text(out, n, s);
     number(out, m, x)
 }
+
+// A word between quotes, its first 32 bytes.
+pub fn quoted(out: &mut Answers, n: usize, word: &[u8]) -> usize {
+    let mut m = byte(out, n, b'\'');
+    m = shown(out, m, word);
+    if word.len() > 32 {
+        m = text(out, m, b"...");
+    }
+    byte(out, m, b'\'')
+}
+
+fn shown(out: &mut Answers, n: usize, word: &[u8]) -> usize {
+    let mut m = n;
+    for i in 0..32 {
+        if i >= word.len() {
+            break;
+        }
+        m = byte(out, m, printing(word[i]));
+    }
+    m
+}
+
+// b, or `?` where it is no printing ASCII character.
+fn printing(b: u8) -> u8 {
+    if b < 33 {
+        return b'?';
+    }
+    if b > 126 {
+        return b'?';
+    }
+    b
+}

@@ -16,7 +16,7 @@ use std::process::ExitCode;
 pub type Answer<T = ()> = Result<T, u32>;
 
 // Load bits' test of its bytes, by itself.
-#[link(name = "tdd_parts", kind = "static")]
+#[link(name = "tables", kind = "static")]
 unsafe extern "C" {
     fn tdd_has_byte_above_1(bits: *const u8, count: usize) -> bool;
 }

@@ -7,4 +7,4 @@ use Rattle.script.proofs.bits.digits.Tie as tie
 pub digits-spec : {M : Type 1} → statement M
 digits-spec =
     tie.close
-    (tie.spec (λ _ _ _ _ _ _ _ _. Unit {0}) (λ _ _ _ _ i-end _ _ i. i-end - i) (λ c. search needs) (λ c. search needs) (λ c κs. search needs) (λ c. search needs) (λ c. search needs) (λ c. search needs) (λ c. search needs) (λ c. search needs) (λ c. search needs) (λ c. search needs))
+    (tie.spec (λ _ _ _ _ _ _ _ _ _ _ _. Unit {0}) (λ _ _ _ _ _ _ _ i-end _ _ i. i-end - i) (λ c κs. search needs) (λ c κs. search needs) (λ c κs. search needs) (λ c. search needs) (λ c. search needs) (λ c κs. search needs) (λ c. search needs) (λ c. search needs) (λ c. search needs) (λ c. search needs) (λ c. search needs) (λ c. search needs) (λ c. search needs))

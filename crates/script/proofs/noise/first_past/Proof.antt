@@ -1,8 +1,8 @@
 -- `first_past` is safe, and ends: with each turn fewer chips are left. Assumes nothing.
 use Prim.Native.Nat.{_-_}
 use borrow.Author.Needs.{needs}
-use Rattle.noise.proofs.first_past.Statement.{statement}
-use Rattle.noise.proofs.first_past.Tie as tie
+use Rattle.script.proofs.noise.first_past.Statement.{statement}
+use Rattle.script.proofs.noise.first_past.Tie as tie
 
 pub first-past-spec : {M : Type 1} → statement M
 first-past-spec =

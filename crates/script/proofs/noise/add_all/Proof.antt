@@ -1,8 +1,8 @@
 -- `add_all` is safe, and ends: with each turn fewer chips are left. Assumes nothing.
 use Prim.Native.Nat.{_-_}
 use borrow.Author.Needs.{needs}
-use Rattle.noise.proofs.add_all.Statement.{statement}
-use Rattle.noise.proofs.add_all.Tie as tie
+use Rattle.script.proofs.noise.add_all.Statement.{statement}
+use Rattle.script.proofs.noise.add_all.Tie as tie
 
 pub add-all-spec : {M : Type 1} → statement M
 add-all-spec =

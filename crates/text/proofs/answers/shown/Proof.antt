@@ -1,8 +1,8 @@
 -- `shown` is safe, and ends: with each turn fewer bytes are left. Assumes nothing.
 use Prim.Native.Nat.{_-_}
 use borrow.Author.Needs.{needs}
-use Rattle.answer_text.proofs.filled.shown.Statement.{statement}
-use Rattle.answer_text.proofs.filled.shown.Tie as tie
+use Rattle.text.proofs.answers.shown.Statement.{statement}
+use Rattle.text.proofs.answers.shown.Tie as tie
 
 pub shown-spec : {M : Type 1} → statement M
 shown-spec =

@@ -1,9 +1,9 @@
 // Noise on a part of the recording, from a generator whose rule docs/TDD.md has in full.
-use script::answer::LineAnswer;
-use script::faults::Fault;
-use script::memory;
-use script::memory::Memory;
-use script::memory::PLANE;
+use crate::answer::LineAnswer;
+use crate::faults::Fault;
+use crate::memory;
+use crate::memory::Memory;
+use crate::memory::PLANE;
 use text::complement::signed;
 use text::complement::word;
 
