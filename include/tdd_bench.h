@@ -3,20 +3,11 @@
  *
  *     tdd_bench bench = tdd_bench_fresh();
  *     uint32_t refusal = tdd_open(&bench, 4, 1, 3);
+ *     if (refusal)
+ *         printf("refused %" PRIu32 ": %s\n", refusal, tdd_refusal_words(refusal));
  *
  * Every call answers its refusal's number, or 0 where it is accepted. A number is given if its condition holds and no earlier one of the call's list
- * does; the lists stand at the calls, in their order:
- *
- *      1  cell parameter above 127            11  no slot under way
- *      2  burst type not 1, 2, 3              12  the lengths of a re and an im buffer differ
- *      3  spreading factor not 1, 2, 4, 8, 16 13  burst type not 1
- *      4  code index not below the factor     14  case not 1 or 2
- *      5  gain not 1 to 4095                  15  frame not 1 or 2, half above 1, or half 1 in case 1
- *      6  code related to an open code        16  length not as the call takes it
- *      7  code not open                       17  a component outside -100000 to 100000
- *      8  count of bits not as the code has   18  an answer or scratch buffer too short
- *      9  a byte above 1                      19  no candidate beats all others
- *     10  slot under way
+ * does; the lists stand at the calls, in their order. tdd_refusals.h has a constant for each number, and its words.
  *
  * A refused call leaves the bench and every buffer as they were. An accepted one writes what its comment says and leaves later entries as they were. The
  * place of load plan and the count of draw are written either way.
@@ -38,6 +29,8 @@
 
 #include <stddef.h>
 #include <stdint.h>
+
+#include "tdd_refusals.h"
 
 #ifdef __cplusplus
 extern "C" {

@@ -2,7 +2,8 @@
  * The code rules of TS 25.223 V3.3.0 for a marking tool. Link libtdd_codes.a.
  *
  * Every call takes any numbers and answers a struct by value: `refusal` is the refusal's number, or 0 where the call is accepted, and every other
- * field is 0 where it is refused. No call reads or writes memory of the host's, keeps anything, or can fail in another way; any thread may call.
+ * field is 0 where it is refused; tdd_refusals.h has a constant for each number, and its words. No call reads or writes memory of the host's, keeps
+ * anything, or can fail in another way; any thread may call.
  * Chips count from 0: scrambling chip 0 is the standard's element 1.
  *
  * A code (q, k) is a spreading factor q out of 1, 2, 4, 8, 16 and an index k from 0 to q - 1.
@@ -11,6 +12,8 @@
 #define TDD_CODES_H
 
 #include <stdint.h>
+
+#include "tdd_refusals.h"
 
 #ifdef __cplusplus
 extern "C" {

@@ -1,6 +1,6 @@
 #!/bin/sh
-# The libraries as hosts use them: builds them into lib/, then runs the tests of host/, which hold every export to an independent implementation, and
-# compile and run C programs by the headers under include/.
+# The libraries as hosts use them: builds them into lib/, then runs the tests of host/, which hold every export to an independent implementation,
+# compile and run C programs by the headers under include/, and hold the words of refusals to docs/TDD.md.
 set -eu
 cd "$(dirname "$0")/.."
 for tool in cargo cc; do
@@ -12,4 +12,4 @@ done
 make --no-print-directory libraries
 began=$(date +%s)
 (cd host && cargo test --quiet -- --show-output) # with the seeds, and what the random lists came upon
-echo "host: the libraries agree with the independent implementation, and with their headers; $(($(date +%s) - began)) s"
+echo "host: the libraries agree with the independent implementation and their headers, the words of refusals with docs/TDD.md; $(($(date +%s) - began)) s"

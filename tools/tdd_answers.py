@@ -1,7 +1,7 @@
 """Prints what the program tdd must print on standard output for scripts.
 
 Takes the path of the text of TS 25.223 V3.3.0 and then the scripts, by their names from where it
-is run; where none is named, the script is read from standard input:
+is run; `-` is the script on standard input, and so is no name at all:
 
     python3 tools/tdd_answers.py TS-25.223-V3.3.0.txt [SCRIPT]...
 
@@ -26,6 +26,8 @@ USAGE = "usage: python3 tools/tdd_answers.py TS-25.223-V3.3.0.txt [SCRIPT]..."
 
 def read_script(name):
     """The bytes of a script, or None where it cannot be read, which is then told."""
+    if name == "-":
+        return sys.stdin.buffer.read()
     try:
         return Path(name).read_bytes()
     except OSError as error:
@@ -34,9 +36,7 @@ def read_script(name):
 
 def read_scripts(names):
     """Each script with its name; the one on standard input where there are no names."""
-    if not names:
-        return [("", sys.stdin.buffer.read())]
-    return [(name, read_script(name)) for name in names]
+    return [(name, read_script(name)) for name in names or ["-"]]
 
 
 def output_lines(codes, scripts):

@@ -15,17 +15,22 @@ import sys
 from pathlib import Path
 
 sys.dont_write_bytecode = True  # so that the imports leave no files behind
+from families.bits import bits
 from families.bursts import bursts
 from families.calls import calls
 from families.codes import codes
 from families.cut_numbers import cut_numbers
 from families.faults import faults
 from families.finding import finding
+from families.mark import mark
+from families.nearest import nearest
 from families.plans import plans
 from families.random_lists import random_lines
 from families.readings import readings
+from families.refusal_words import refusal_words
 from families.script import Script
 from families.slots import slots
+from families.told_settings import told_settings
 from reference.codes import Codes
 from reference.standard import read_text
 
@@ -34,12 +39,17 @@ SCRIPTS = {
     "codes.txt": codes,
     "slots.txt": slots,
     "plans.txt": plans,
+    "bits.txt": bits,
+    "settings.txt": told_settings,
+    "refusals.txt": refusal_words,
     "readings.txt": readings,
     "bursts.txt": bursts,
     "finding.txt": finding,
     "calls.txt": calls,
     "cut-numbers.txt": cut_numbers,
     "faults.txt": faults,
+    "nearest.txt": nearest,
+    "mark.txt": mark,
     **{f"random-{n}.txt": random_lines(80 + n) for n in (1, 2, 3, 4)},
 }
 

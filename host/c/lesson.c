@@ -27,7 +27,7 @@ static int32_t re[FIRST + ASKED], im[FIRST + ASKED];
 /* Every call answers 0 or the number of its refusal, and a refused call has done nothing. This lesson ends there. */
 static void check(uint32_t refusal) {
     if (refusal) {
-        printf("refused %" PRIu32 "\n", refusal);
+        printf("refused %" PRIu32 ": %s\n", refusal, tdd_refusal_words(refusal));
         exit(EXIT_FAILURE);
     }
 }
@@ -68,9 +68,13 @@ static void read_back(size_t from) {
 }
 
 int main(void) {
-    /* The pairs 01 10 11 00 first and 11 last; the bits between are 0. */
-    static const uint8_t bits[BITS] = {0, 1, 1, 0, 1, 1, 0, 0, [BITS - 2] = 1, 1};
+    /* The pairs 01 10 11 00, over and over. */
+    static const uint8_t repeated[8] = {0, 1, 1, 0, 1, 1, 0, 0};
+    uint8_t bits[BITS];
     tdd_bench bench = tdd_bench_fresh();
+
+    for (size_t i = 0; i < BITS; i++)
+        bits[i] = repeated[i % 8];
 
     print_ok(tdd_set_cell(&bench, CELL, TYPE));
     print_ok(tdd_open(&bench, Q, K, GAIN));

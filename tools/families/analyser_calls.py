@@ -3,11 +3,11 @@
 from reference.analyser import LARGEST
 from reference.codes import CODES, start_of_burst
 from reference.pairs import add
-from reference.slot import burst, right_count
+from reference.slot import burst
 
 from .bursts import TWO
 from .dice import Dice, with_gains
-from .script import MAX, NONE_BAD, chips_line, load_plan, open_loaded
+from .script import MAX, chips_line, load_plan, open_loaded
 from .settings import SYNC_PLACES
 from .slots import FILLED
 
@@ -82,13 +82,13 @@ def every_code(script):
     dice = Dice(31)
     script.empty("set-cell 99 1", load_plan(with_gains(dice, FILLED)))
     for q, k in FILLED[1:]:
-        script.run(f"load-bits {q} {k} {right_count(q, 1)} {q + k} {NONE_BAD}")
+        script.run(f"load-bits {q} {k} random {q + k}")
     script.run("start, draw 2560")
     for q, k in CODES:
         script.run(f"read 99 {q} {k} 0 96, harden, read 99 {q} {k} {1488 + 880} 96, harden")
     for q, k in FILLED:
         script.look_whole(f"read 99 {q} {k} 0 976", f"read 99 {q} {k} 1488 976")
-    script.empty("set-cell 100 3, open 8 7 900", open_loaded(8, 0, 3, 1000, 1),
+    script.empty("set-cell 100 3, open 8 7 900", open_loaded(8, 0, 1000, 1),
                  "open 16 4 1, start, draw 3000")
     script.look_whole("read 100 8 0 0 976", "read 100 8 0 1488 880", "read 100 8 7 1488 880",
                       "read 100 16 4 1488 880", "read 100 16 5 1488 880", "read 100 8 7 1487 880",
@@ -111,7 +111,7 @@ def bursts(script):
                    f"read-sync {case} {before} 256, read-sync {3 - int(case)} {before} 256",
                    f"find 0 290, show {before} 3, draw 3000")
     script.say("a slot under a burst: the data is read, and the burst too")
-    script.empty("set-cell 88 1", open_loaded(4, 2, 1, 50, 3), "set-sync 1 2 0 900 4095, start",
+    script.empty("set-cell 88 1", open_loaded(4, 2, 50, 3), "set-sync 1 2 0 900 4095, start",
                  "draw 2560, read-sync 1 1776 256, read-sync 2 1776 256, read-sync 1 1775 256",
                  "read-sync 1 1777 256, find 0 2560, find 1776 256, find 1777 300, find 1500 600",
                  "find 1520 512, find 1521 512, show 1770 10, show 2028 8")

@@ -56,18 +56,18 @@ def bits_edges(script):
                "load-bits 8 4, load-bits 16 9 2, load-bits 16 9, load-bits 16 9 0",
                "load-bits 16 10 1")
     script.look()
-    script.run("set-cell 42 1", open_loaded(1, 0, 1, 3, 5))
+    script.run("set-cell 42 1", open_loaded(1, 0, 3, 5))
     digits = "0110" * LONGEST_LINE
     script.run(f"load-bits 1 0 {digits}"[:LONGEST_LINE], "set-gain 1 0 4")
     script.look()
-    script.run("set-cell 43 2", open_loaded(2, 1, 2, 4, 6), open_loaded(8, 1, 2, 5, 7))
+    script.run("set-cell 43 2", open_loaded(2, 1, 4, 6), open_loaded(8, 1, 5, 7))
     script.look()
 
 
 def plan_edges(script):
     dice = Dice(30)
     script.say("load-plan: 0, 1, 16, 17, 40 and 3000 records")
-    script.run("set-cell 50 1, set-sync 1 1 0 20 30, load-plan", open_loaded(4, 3, 1, 9, 9),
+    script.run("set-cell 50 1, set-sync 1 1 0 20 30, load-plan", open_loaded(4, 3, 9, 9),
                "load-plan 8,6,11, close 4 3, load-bits 8 6", "load-plan 8,6,4096, set-gain 8 6 12")
     script.look()
     sixteen = with_gains(dice, dice.shuffled(SIXTEEN))
@@ -107,7 +107,7 @@ def slot_edges(script):
     script.empty(*start_and_draw_edges(), "draw 2560, erase")
     ends = (0, 1, 2559, 2560, 2561, 2562, MAX - 1, MAX)
     unequal = [f"draw {n} {m}" for n in ends for m in ends if n != m]
-    script.run("set-cell 21 1", open_loaded(8, 2, 1, 600, 4), *unequal, "start", *unequal)
+    script.run("set-cell 21 1", open_loaded(8, 2, 600, 4), *unequal, "start", *unequal)
     for length in (0, 1, 2560, 2561, MAX):
         script.run(f"draw {length} {length}, draw 1 1, draw 1, start, draw 5, show 0 5")
     script.run("draw 2550, draw 4294967295 2560, draw 4294967295 4294967295, erase, start")
@@ -119,14 +119,14 @@ def slot_edges(script):
 def half_drawn_slots(script):
     script.say("what changes in the course of a slot shows in the next one")
     script.tell(brief=True)
-    changes = ("set-gain 16 5 701", f"load-bits 16 9 244 13 {NONE_BAD}", "open 4 3 50",
+    changes = ("set-gain 16 5 701", "load-bits 16 9 random 13", "open 4 3 50",
                "close 16 9", "load-plan 16,5,700", "load-plan", "set-cell 82 1, open 8 5 60",
                "set-cell 83 2", "set-cell 83 3, open 8 5 60", "set-sync 2 2 1 90 80", "clear-sync",
                "close 16 5, open 16 5 700",
                "set-gain 16 5 4096, open 2 0 5, close 4 0, start, draw 3 4")
     for n, change in enumerate(changes):
         place = (0, 1, 400, 976, 1300, 1488, 1700)[n % 7]
-        script.empty("set-cell 83 1", open_loaded(16, 5, 1, 700, 11), "open 16 9 300",
+        script.empty("set-cell 83 1", open_loaded(16, 5, 700, 11), "open 16 9 300",
                      f"set-sync 2 1 1 90 80, start, draw {place}", change,
                      "start, draw 3000, read 83 16 5 0 976, read 83 16 9 1488 976, show 1716 6",
                      "start, draw 1000, read 83 16 5 2560 976, show 3520 40, draw 1000",

@@ -6,5 +6,6 @@ from .recording_calls import RECORDING_CALLS
 
 
 def calls(script):
+    script.add("\xef\xbbharden")  # no whole byte order mark
     for family in (first_readings, instances, *BENCH_CALLS, *ANALYSER_CALLS, *RECORDING_CALLS):
         family(script)

@@ -2,6 +2,8 @@
 
 from reference.codes import CODES
 
+from .script import BYTE_ORDER_MARK
+
 # Arguments at and past the limits of each call, up to the largest number of 32 bits. Some would be
 # good numbers again once cut to 8 or 16 bits.
 EDGES = {
@@ -77,6 +79,7 @@ def brief_codes(script):
 
 
 def codes(script):
+    script.add(f"{BYTE_ORDER_MARK}# every value of the code rules")
     for family in (every_code, every_cell, every_sync_code, every_allocation, single_chips, edges,
                    brief_codes):
         script.say(family.__name__.replace("_", " "))

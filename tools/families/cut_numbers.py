@@ -18,7 +18,7 @@ GOOD = (
 
 def ready(script):
     """Code (4, 1) is open, and a slot with a burst from chip 384 on is in the recording."""
-    script.empty("set-cell 32 1, set-sync 1 1 0 50 40", open_loaded(4, 1, 1, 30, 5),
+    script.empty("set-cell 32 1, set-sync 1 1 0 50 40", open_loaded(4, 1, 30, 5),
                  "start, draw 2560")
 
 
@@ -44,9 +44,13 @@ def bits(script):
     ready(script)
     _, q, k, digits = spelled("load-bits 4 1 976 6 9999").split(" ")
     for more in MORE:
-        script.run(f"load-bits {int(q) + more} {k} {digits}, load-bits {q} {int(k) + more} {digits}")
+        for code in (f"{int(q) + more} {k}", f"{q} {int(k) + more}"):
+            script.run(f"load-bits {code} {digits}, load-bits {code} random 6")
     # Of 4340 bits 4340 x 16 would be 3904 once it is cut to 16 bits, as for 244.
     script.run("open 16 0 5", "load-bits 16 0 " + "1" * 4340, "start, erase, draw 16, show 0 16")
+    # 4294967297 would be 1 once it is cut to 32 bits.
+    script.run("load-bits 16 0 random 1, load-bits 16 0 random 4294967297")
+    script.run(*(f"load-bits 16 0 random {1 + more}" for more in MORE), "read 32 16 0 0 16")
 
 
 def lengths(script):

@@ -4,7 +4,7 @@ from random import Random
 
 from reference.slot import right_count
 
-from .script import MAX, NONE_BAD, load_plan
+from .script import MAX, NONE_BAD, load_plan, spelled
 
 FACTORS = (1, 2, 4, 8, 16)
 # Some of these are good numbers again once cut to 8 or 16 bits.
@@ -66,10 +66,17 @@ def random_open(dice, q, k):
 
 
 def random_load_bits(dice, q, k, slot_type):
-    count = right_count(max(q, 1), slot_type)
-    bad = NONE_BAD if dice.below(6) else dice.below(count + 1)
-    count += dice.pick((-2, -1, 1, 2)) if dice.below(6) == 0 else 0
-    return f"load-bits {q} {k} {max(count, 0)} {dice.below(10000)} {bad}"
+    """Random bits, or a few that fill the code; with Q 16 also a word of all bits. At times one
+    too few or too many, or with a digit above 1."""
+    seed = dice.pick((dice.below(10000), dice.below(2**32)))
+    if dice.below(2):
+        return f"load-bits {q} {k} random {seed}"
+    count, ending = 1 + dice.below(20), dice.pick(("..", "*", "..", "*", ""))
+    if q == 16 and dice.below(3) == 0:
+        count, ending = right_count(q, slot_type), dice.pick(("..", "*", "", "", ""))
+        count += dice.pick((-2, -1, 1, 2)) if dice.below(4) == 0 else 0
+    bad = NONE_BAD if dice.below(6) else dice.below(count)
+    return spelled(f"load-bits {q} {k} {count} {seed} {bad}") + ending
 
 
 # Plans
@@ -85,10 +92,10 @@ def with_gains(dice, codes):
     return [(q, k, dice.pick((1, 4095, 1 + dice.below(4095)))) for q, k in codes]
 
 
-def load_each(dice, codes, slot_type):
+def load_each(dice, codes):
     """Calls that give bits to each of these codes."""
     for q, k in codes:
-        yield f"load-bits {q} {k} {right_count(q, slot_type)} {dice.below(1000)} {NONE_BAD}"
+        yield f"load-bits {q} {k} random {dice.below(1000)}"
 
 
 def random_record(dice, settings):

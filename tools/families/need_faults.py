@@ -84,12 +84,16 @@ def longest_record(script):
     fill; the readings stay."""
     script.say("the longest line of chips")
     script.empty("record " + "1 2 " * 15 + "3 4, read 8 1 0 0 16, harden, erase, silence 38400")
-    chips = [(1, 2)] * ((LONGEST_LINE - len("record")) // len(" 1 2"))
-    script.add(chips_line(chips))
-    script.run(f"harden, show 38399 1, erase, silence {LONGEST_RECORDING - len(chips)}")
-    script.add(chips_line(chips))
-    script.run(f"brief, show {LONGEST_RECORDING - len(chips) - 1} {len(chips) + 1}, full, harden",
-               "record 1 2, harden, show 38398 2")
+    count = (LONGEST_LINE - len("record")) // len(" 1 2")
+    in_two, in_one = chips_line([(1, 2)] * count), "record" + " 1,2" * count
+    script.add(in_one)
+    script.run("harden, show 38399 1, record 1 2, record 1,2, record 1,2 3 4 5,6")
+    for line in (in_two, in_one):
+        script.run(f"erase, silence {LONGEST_RECORDING - count}")
+        script.add(line)
+        script.run(f"brief, show {LONGEST_RECORDING - count - 1} {count + 1}, full, harden",
+                   "record 1 2, record 1,2, harden, show 38398 2")
+    script.run("erase, record" + " 1,2" * 1000 + " 1,, show 0 0")
     glance(script)
 
 

@@ -85,7 +85,7 @@ def plans_long(script):
     forty = sixteen + with_gains(dice, (dice.pick(CODES) for _ in range(24)))
     for length in (16, 17, 31, 32, 33, 40):  # the first alone is accepted
         script.run(load_plan(forty[:length]))
-    script.run("set-sync 2 2 0 800 900", SHOW_PLAN, *load_each(dice, SIXTEEN[5:8], 1))
+    script.run("set-sync 2 2 0 800 900", SHOW_PLAN, *load_each(dice, SIXTEEN[5:8]))
     for place, record in ((0, (3, 0, 5)), (1, (2, 2, 5)), (2, (8, 8, 5)), (5, (16, 1, 4096)),
                           (10, forty[4]), (14, (1, 0, 5)), (15, (4, 1, 0)), (15, (1, 1, 5))):
         script.run(load_plan(forty[:place] + [record] + forty[place + 1:]))
@@ -100,7 +100,7 @@ def plans_accepted(script):
         script.run(f"fresh, load-plan, set-cell {90 + slot_type} {slot_type}, set-sync 2 1 0 77 66")
         for codes in (SIXTEEN, [(1, 0)], FILLED, random_plan(dice), []):
             script.run(load_plan(with_gains(dice, codes)), SHOW_PLAN,
-                       *load_each(dice, codes[-2:], slot_type))
+                       *load_each(dice, codes[-2:]))
         script.run("open 1 0 2000", SHOW_PLAN)
     for q in FACTORS:
         script.run(f"load-plan {q},{q - 1},4095, load-plan {q},{q - 1},1")
@@ -121,7 +121,7 @@ def plans_between_draws(script):
         script.run("fresh", three_codes(20 + slot_type, slot_type))
         for n, plans in enumerate(some):
             opened = list(script.bench.settings.open)
-            script.run("start", *load_each(dice, opened[:1], slot_type))
+            script.run("start", *load_each(dice, opened[:1]))
             script.draw_to((0, 1, 400, 976, 1300, 1488, 1700, 2559)[n % 8])
             script.run(*map(load_plan, plans), "draw 3000 3000")
         script.run(SHOW_PLAN)
@@ -134,7 +134,7 @@ def plans_and_calls(script):
         script.run(f"fresh, set-cell 33 {slot_type}, set-sync 2 1 1 60 70, open 2 1 9",
                    load_plan(PLAN), "close 2 1, open 2 0 9, open 4 1 9, open 16 4 9, open 8 1 90",
                    f"load-bits 16 12 {count - 1} 7 {NONE_BAD}, load-bits 16 12 {count} 7 0",
-                   f"load-bits 16 12 {count} 7 {NONE_BAD}, load-bits 4 1 {4 * count} 8 {NONE_BAD}",
+                   f"load-bits 16 12 {count} 7 {NONE_BAD}, load-bits 4 1 random 8",
                    "set-gain 8 5 4096, set-gain 8 5 77, close 16 0, close 16 0, open 8 0 500",
                    SHOW_PLAN, load_plan(PLAN[:3]), SHOW_PLAN,
                    f"set-cell 34 {slot_type % 3 + 1}, close 8 5", SHOW_PLAN, load_plan(PLAN[1:]),

@@ -25,12 +25,11 @@ def random_settings(dice, script):
     if kind == 2:
         return (f"set-sync {dice.pick((1, 2))} {dice.pick((1, 2, 1, 2, 0))} {dice.below(2)}"
                 f" {random_gain(dice)} {random_gain(dice)}")
-    call = random_call(dice, settings)
-    if call.startswith("load-bits"):  # else the scripts would be mostly bits
+    if kind == 3:
         q, k = random_code(dice, settings)
         return dice.pick((f"load-bits {q} {k}", f"load-bits {q} {k} {dice.below(100)}",
-                          f"set-gain {q} {k} {1 + dice.below(4095)}"))
-    return call
+                          "settings", "settings", "settings"))
+    return random_call(dice, settings)
 
 
 def random_bits(dice, settings):
@@ -73,7 +72,9 @@ def random_record(dice, script):
     if dice.below(3) == 0:
         edge = dice.pick((LARGEST, LARGEST + 1, -LARGEST, -LARGEST - 1, 2**31 - 1, -2**31))
         chips[dice.below(len(chips))] = dice.pick(((edge, 0), (0, edge), (edge, -5)))
-    return chips_line(chips)
+    if dice.below(2):
+        return chips_line(chips)
+    return " ".join(["record", *(f"{re}{dice.pick((' ', ','))}{im}" for re, im in chips)])
 
 
 def random_silence(dice, script):
@@ -246,13 +247,23 @@ def random_fault(dice, script):
     words = line.split() if len(line) < 500 else ["start"]
     at = dice.below(len(words))
     junk = dice.pick(("x", "-1", "-", str(MAX + 1), "1.5", "+3", "9" * 50, "4,1", "0\0", "\xe4",
-                      "START"))
-    kind = dice.below(4)
+                      "START", "..", "0*", "random", "settings", "3,4,5"))
+    kind = dice.below(5)
+    if kind == 4:
+        return " ".join([misspelt(dice, words[0]), *words[1:]])
     if kind == 0:
         return " ".join(words[:-1] or ["stop"])
     if kind == 1:
         return " ".join(words + [junk if dice.below(2) else "7"])
     return " ".join(words[:at] + [junk] + words[at + 1:])
+
+
+def misspelt(dice, word):
+    """A word with one character put in, left out or changed, or with two neighbours exchanged."""
+    at, letter = dice.below(len(word)), dice.pick("aet-X")
+    return dice.pick((word[:at] + letter + word[at:], word[:at] + word[at + 1:],
+                      word[:at] + letter + word[at + 1:],
+                      word[:at] + word[at:at + 2][::-1] + word[at + 2:]))
 
 
 def random_blank(dice, script):

@@ -31,7 +31,7 @@ def full_recording(script):
 
 def full_in_a_field(script):
     script.say("the recording, filled with a slot in the middle of its second field")
-    script.empty(open_loaded(16, 3, 2, 90, 4), "start, draw 2000, erase, draw 2560", *SLOTS,
+    script.empty(open_loaded(16, 3, 90, 4), "start, draw 2000, erase, draw 2560", *SLOTS,
                  "start, draw 1999, record 1 2 3 4, draw 2, draw 561, draw 562, draw 1, draw 1")
     script.run(f"draw 1 1, draw 560, draw {MAX}, draw 1 2, record 5 6, start, draw 0, show 38392 8",
                "read 70 16 3 38304 96, harden, erase, draw 16, show 0 16, draw 3000, draw 1")
@@ -60,7 +60,7 @@ def noise(script):
     for size in (0, 1, 2, 127, 128, 65535, 65536, 99999, 100000):
         script.run(f"erase, silence 40, noise 0 40 {size + 3} {size}, show 0 40")
     script.say("over a slot and a burst, which are still read")
-    script.empty("set-cell 45 1", open_loaded(8, 5, 1, 900, 3), "set-sync 2 1 1 500 400, start",
+    script.empty("set-cell 45 1", open_loaded(8, 5, 900, 3), "set-sync 2 1 1 500 400, start",
                  "draw 2560, noise 0 2560 77 150, show 0 8, brief, show 0 2560, read 45 8 5 0 976",
                  "harden, read 45 8 5 1488 976, harden, read-sync 2 528 256, find 0 2560, full",
                  "noise 0 1 1 100000, noise 975 1 2 100000, read 45 8 5 0 976")
@@ -88,7 +88,7 @@ def brief_and_full(script):
     script.empty("brief, show 0 0, record 1 -2, show 0 1, show 1 0, record 3 -4 5 -6, show 0 3",
                  "record 7 -8, show 0 4, record -2147483648 2147483647, show 0 5, show 1 4, full",
                  "show 0 5, show 0 0, full, show 0 1, brief, brief, show 4 1, erase, show 0 0")
-    script.run("set-cell 9 1", open_loaded(4, 2, 1, 30, 1), "start, draw 1000")
+    script.run("set-cell 9 1", open_loaded(4, 2, 30, 1), "start, draw 1000")
     for q, chips in ((16, 16), (8, 16), (4, 16), (4, 32), (2, 32), (1, 16), (1, 976)):
         script.run(f"read 9 {q} {q // 2} 0 {chips}, harden, full, harden, brief")
     script.run("read 9 3 0 0 16, harden, read 128 4 2 0 16, find 0 256, read-sync 1 0 256",
@@ -103,5 +103,17 @@ def show_and_help(script):
                  "show 3 2, show 6 1, show 7 0, show 0 6, help, show 1 1, harden")
 
 
+def chips_of_one_word(script):
+    script.say("record: chips as show tells them, alone and beside others")
+    script.empty("record 3,4, show 0 1, record 3 4 5,-6, record 7,8 9 10, record -1,-2 -3,-4",
+                 "show 0 7, record 1 2 3,4 5 6 7,8, record -0,-00 0012,-0012 0,0, show 7 7",
+                 "record -2147483648,2147483647 2147483647,-2147483648, show 13 3, erase",
+                 "silence 15, record 100000,-100000, read 8 16 3 0 16, harden, record -100001,1",
+                 "read 8 16 3 1 16, erase")
+    re, im = script.codes.primary
+    script.add(" ".join(["record", *(f"{5 * x},{-7 * y}" for x, y in zip(re, im))]))
+    script.run("find 0 256, brief, show 0 256, full, show 250 6")
+
+
 RECORDING_CALLS = (full_recording, full_in_a_field, silence, noise, noise_up_to_the_limits,
-                   brief_and_full, show_and_help)
+                   brief_and_full, chips_of_one_word, show_and_help)

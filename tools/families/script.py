@@ -6,10 +6,11 @@ there then. A line is a string in which a character stands for a byte.
 
 from reference.codes import start_of_burst
 from reference.recording import LONGEST_RECORDING
-from reference.script import ScriptBench, answer
-from reference.slot import FIELDS, SLOT, right_count
+from reference.script import MARK, ScriptBench, answer, passed_over
+from reference.slot import FIELDS, SLOT
 from reference.words import Fault
 
+BYTE_ORDER_MARK = MARK.decode("latin-1")
 MAX = 2**32 - 1
 NONE_BAD = 9999  # as BAD: past the bits of every load
 SHOWN_IN_FULL = 32  # the longest draw whose chips are shown in full
@@ -34,9 +35,9 @@ def spelled(call):
     return f"load-bits {q} {k} {seeded_bits(*map(int, data))}".rstrip()
 
 
-def open_loaded(q, k, slot_type, gain, seed):
+def open_loaded(q, k, gain, seed):
     """Calls that open a code and give it bits."""
-    return f"open {q} {k} {gain}, load-bits {q} {k} {right_count(q, slot_type)} {seed} {NONE_BAD}"
+    return f"open {q} {k} {gain}, load-bits {q} {k} random {seed}"
 
 
 def load_plan(records):
@@ -55,6 +56,7 @@ class Script:
     def __init__(self, codes):
         self.codes, self.bench = codes, ScriptBench(codes)
         self.lines, self.ending = [], "\n"
+        self.answered = None  # what the last line was answered, where it was a call
         self.shows_draws = False  # whether each draw is followed by its chips
         # What draws have put into the recording: settings of the slot, place in the slot, place in
         # the recording, count.
@@ -65,10 +67,12 @@ class Script:
         return len(self.bench.recording)
 
     def add(self, line):
+        written, first = line.encode("latin-1"), not self.lines
         self.lines.append(line)
         copy, tally, has = self.bench.copy, self.bench.tally, self.recorded()
+        self.answered = None
         try:
-            answer(self.bench, line.encode("latin-1"))
+            self.answered = answer(self.bench, written, passed_over(written) if first else 0)
         except Fault:
             return
         more = self.recorded() - has

@@ -7,7 +7,7 @@ from reference.codes import CODES, are_related
 from reference.slot import FIELDS, right_count
 
 from .dice import BAD_FACTORS, BAD_GAINS, FACTORS
-from .script import MAX, NONE_BAD, open_loaded
+from .script import MAX, NONE_BAD, open_loaded, spelled
 
 SYNC_PLACES = ("1 1 0", "1 2 0", "2 1 0", "2 1 1", "2 2 0", "2 2 1")  # case, frame, half
 
@@ -54,7 +54,7 @@ def open_related(opened):
 
 
 def close_edges():
-    yield open_loaded(4, 1, 1, 70, 5)
+    yield open_loaded(4, 1, 70, 5)
     for q in BAD_FACTORS:
         yield f"close {q} 0, close {q} {q}"
     for q in FACTORS:
@@ -65,7 +65,7 @@ def close_edges():
 
 
 def set_gain_edges():
-    yield open_loaded(4, 1, 1, 70, 5)
+    yield open_loaded(4, 1, 70, 5)
     for q in BAD_FACTORS:
         yield f"set-gain {q} 0 1, set-gain {q} {q} 0"
     for q in FACTORS:
@@ -78,12 +78,11 @@ def set_gain_edges():
 
 def load_bits_codes():
     """Refusals 3, 4 and 7, where also the count and a byte are bad or both are good."""
-    yield open_loaded(4, 1, 1, 70, 5)
+    yield open_loaded(4, 1, 70, 5)
     for q in BAD_FACTORS:
-        yield f"load-bits {q} 0 976 6 {NONE_BAD}, load-bits {q} {q} 975 6 0"
+        yield f"load-bits {q} 0 random 6, load-bits {q} {q} 2.., load-bits {q} 0 244 6 {NONE_BAD}"
     for q in FACTORS:
-        good = f"{right_count(q, 1)} 6 {NONE_BAD}"
-        yield f"load-bits {q} {q} {good}, load-bits {q} {256 + q // 4} {good}"
+        yield f"load-bits {q} {q} random 6, load-bits {q} {256 + q // 4} 01*"
         yield f"load-bits {q} {MAX} 1 6 0"
     yield f"load-bits 2 0 1952 6 {NONE_BAD}, load-bits 8 2 488 6 {NONE_BAD}, load-bits 4 0 975 6 0"
     yield f"load-bits 4 0 976 6 0, load-bits 4 0 0 6 {NONE_BAD}"
@@ -92,15 +91,17 @@ def load_bits_codes():
 def load_bits_counts(slot_type, q):
     """Refusals 8 and 9; the bits of the one good load stay."""
     k, count = q // 3, right_count(q, slot_type)
-    wrong = {0, 1, count // 2, count - 2, count - 1, count + 1, count + 2, 2 * count}
-    wrong |= {right_count(q, other) for other in FIELDS} - {count}
+    wrong = {0, 1, count - 1, count + 1} | {right_count(q, other) for other in FIELDS} - {count}
+    if q > 2:  # else the scripts would be mostly bits
+        wrong |= {count // 2, count - 2, count + 2, 2 * count}
     yield f"set-cell {7 * q} {slot_type}, open {q} {k} 30, load-bits {q} {k} {count} 1 {count}"
     for length in sorted(wrong):
-        if length <= 5000:  # more is for other families
-            yield f"load-bits {q} {k} {length} 2 {NONE_BAD}"
-    yield f"load-bits {q} {k} {count - 1} 3 0, load-bits {q} {k} {count + 1} 3 {count}"
-    for bad in (0, 1, count // 2, count - 1):
-        yield f"load-bits {q} {k} {count} 4 {bad}"
+        yield f"load-bits {q} {k} {length} 2 {NONE_BAD}"
+    if q > 2:
+        yield f"load-bits {q} {k} {count - 1} 3 0, load-bits {q} {k} {count + 1} 3 {count}"
+    for bad in (0, 1, count // 2):
+        yield spelled(f"load-bits {q} {k} {bad + 1} 4 {bad}") + ".."
+    yield f"load-bits {q} {k} {count} 4 {count - 1}"
 
 
 def set_sync_refused():
@@ -130,7 +131,7 @@ def set_sync_accepted():
 
 def start_and_draw_edges():
     yield "fresh, draw 0 0, draw 1 1, draw 5 6, draw 0 1, draw 2560 0, draw 3000 3000"
-    yield open_loaded(4, 1, 1, 77, 9) + ", start, start"
+    yield open_loaded(4, 1, 77, 9) + ", start, start"
     unequal = "draw 5 6, draw 6 5, draw 0 1, draw 1 0, draw 2560 0, draw 0 3000, draw 3000 2999"
     yield f"{unequal}, draw 16 16, start, {unequal}, draw 2543 2543, start, {unequal}, draw 1 1"
     yield "draw 3 4, draw 0 0, draw 1 1, start, start, draw 3000 3000, draw 0 0, draw 1 0, start"

@@ -4,7 +4,7 @@ After each accepted draw its chips are shown, in brief where they are many.
 """
 
 from reference.codes import CODES, start_of_burst
-from reference.slot import FIELDS, right_count
+from reference.slot import FIELDS
 
 from .dice import FACTORS, Dice, random_call, random_plan
 from .script import NONE_BAD, open_loaded
@@ -46,15 +46,15 @@ def whole_slots(script):
         for length in (2560, 2561, 3000):
             script.run(f"set-cell {40 + slot_type} {slot_type}, start, draw {length} {length}")
         for plan in (SIXTEEN, FILLED, *(random_plan(dice) for _ in range(4))):
-            script.run(f"set-cell {dice.below(128)} {slot_type}", *opened(dice, plan, slot_type),
+            script.run(f"set-cell {dice.below(128)} {slot_type}", *opened(dice, plan),
                        "start, draw 2560 2560")
         script.run(f"set-cell {dice.below(128)} {slot_type}", *largest_sums())
-        script.run(f"set-cell 61 {slot_type}", *opened_again(slot_type))
+        script.run(f"set-cell 61 {slot_type}", *opened_again())
 
 
-def opened(dice, plan, slot_type):
+def opened(dice, plan):
     for q, k in plan:
-        calls = open_loaded(q, k, slot_type, 1 + dice.below(4095), dice.below(1000))
+        calls = open_loaded(q, k, 1 + dice.below(4095), dice.below(1000))
         if dice.below(5) == 0:
             calls, _ = calls.split(", ")  # its bits stay 0
         yield calls
@@ -68,14 +68,14 @@ def largest_sums():
     yield "start, draw 2560 2560"
 
 
-def opened_again(slot_type):
+def opened_again():
     """Opened again its bits are 0; a related code in its place; bits replaced, gain changed."""
-    yield open_loaded(4, 1, slot_type, 90, 1)
-    yield open_loaded(8, 6, slot_type, 50, 2)
+    yield open_loaded(4, 1, 90, 1)
+    yield open_loaded(8, 6, 50, 2)
     yield "close 4 1, open 4 1 90, start, draw 2560 2560, close 4 1"
-    yield open_loaded(8, 3, slot_type, 91, 3)
+    yield open_loaded(8, 3, 91, 3)
     yield "start, draw 2560 2560, close 8 3, open 2 0 92, start, draw 2560 2560"
-    yield f"load-bits 8 6 {right_count(8, slot_type)} 4 {NONE_BAD}, set-gain 8 6 51"
+    yield "load-bits 8 6 random 4, set-gain 8 6 51"
     yield "start, draw 2560 2560"
 
 
@@ -88,7 +88,7 @@ def every_cell(script):
         gain = dice.pick((1, 4095, 1 + dice.below(4095)))
         length = dice.pick((2560, 2561, 2700, 3000))
         script.run(f"set-cell {parameter} {slot_type}",
-                   open_loaded(q, k, slot_type, gain, parameter), f"start, draw {length} {length}")
+                   open_loaded(q, k, gain, parameter), f"start, draw {length} {length}")
 
 
 # Sync
@@ -100,7 +100,7 @@ def sync_bursts(script):
     for group in range(32):
         script.run(f"set-cell {4 * group + dice.below(4)} 1")
         if group % 3 == 0:
-            script.run(open_loaded(4, group % 4, 1, 200 + group, group),
+            script.run(open_loaded(4, group % 4, 200 + group, group),
                        f"open 4 {(group + 1) % 4} 4095")
         start = start_of_burst(group)  # group 0's is the slot's first chip
         for place in SYNC_PLACES:
@@ -113,7 +113,7 @@ def sync_bursts(script):
 def sync_whole_slots(script):
     for parameter in (0, 31, 60, 63, 64, 67, 95, 127):
         script.run(f"fresh, set-cell {parameter} 1, set-sync 1 2 0 300 200, start, draw 2560 2560",
-                   open_loaded(2, 1, 1, 500, parameter), open_loaded(16, 6, 1, 1500, 7),
+                   open_loaded(2, 1, 500, parameter), open_loaded(16, 6, 1500, 7),
                    "start, draw 2560 2560, set-sync 2 1 1 4095 4095, start, draw 2560 2560",
                    "set-sync 2 2 0 1 1, set-sync 2 1 0 2 3, start, draw 2560 2560",
                    "clear-sync, clear-sync, start, draw 2560 2560",
@@ -128,8 +128,8 @@ BORDERS = (976, 1104, 1360, 1488, 2368, 2464, 2560)
 
 
 def three_codes(parameter, slot_type):
-    calls = [f"set-cell {parameter} {slot_type}", open_loaded(2, 1, slot_type, 40, 1),
-             open_loaded(8, 1, slot_type, 300, 2), open_loaded(16, 5, slot_type, 2000, 3)]
+    calls = [f"set-cell {parameter} {slot_type}", open_loaded(2, 1, 40, 1),
+             open_loaded(8, 1, 300, 2), open_loaded(16, 5, 2000, 3)]
     return ", ".join(calls + ["set-sync 2 1 1 70 60"] * (slot_type == 1))
 
 
@@ -167,19 +167,19 @@ def small_cuts(script):
 
 # Calls between draws, which show in the next slot but not in the running one
 
-BASE = ", ".join(["set-cell 83 1", open_loaded(4, 1, 1, 700, 11), open_loaded(16, 9, 1, 300, 12),
+BASE = ", ".join(["set-cell 83 1", open_loaded(4, 1, 700, 11), open_loaded(16, 9, 300, 12),
                   "set-sync 2 1 1 90 80"])
 CHANGES = (
-    "set-gain 4 1 701", f"load-bits 16 9 244 13 {NONE_BAD}", "open 4 3 50", "close 16 9",
+    "set-gain 4 1 701", "load-bits 16 9 random 13", "open 4 3 50", "close 16 9",
     "close 4 1, close 16 9", "set-cell 0 1", "set-cell 82 1, open 8 5 60",
     "set-cell 83 2, open 8 5 60", "set-cell 83 3, open 8 5 60", "set-sync 2 2 1 90 80",
     "set-sync 1 1 0 91 81", "clear-sync", "start",
     f"set-gain 4 1 4096, load-bits 4 1 976 5 3, load-bits 4 1 975 5 {NONE_BAD}, open 2 0 9, "
     "close 4 0, set-cell 128 2, set-cell 82 4, set-sync 1 1 1 9 9, draw 4 5, start",
-    f"close 4 1, open 4 1 700, set-gain 16 9 4095, start, load-bits 4 1 976 14 {NONE_BAD}",
+    "close 4 1, open 4 1 700, set-gain 16 9 4095, start, load-bits 4 1 random 14",
     "clear-sync, set-gain 16 9 1, start, close 4 1, open 2 0 333",
     "set-cell 12 3, open 1 0 44, set-sync 1 1 0 1 1, start, "
-    f"load-bits 1 0 3712 15 {NONE_BAD}, set-gain 1 0 45",
+    "load-bits 1 0 random 15, set-gain 1 0 45",
 )
 
 

@@ -7,12 +7,13 @@ from .script import MAX, load_plan, open_loaded
 
 # A line of each call, with as many words as it takes at most, or as two of their kind.
 SAMPLES = ("set-cell 9 2", "open 16 0 5", "load-plan 2,1,9 4,0,8", "close 4 1", "set-gain 4 1 99",
-           "load-bits 16 0", "set-sync 1 1 0 50 60", "clear-sync", "start", "draw 3 3",
-           "record 1 2 3 4", "erase", "show 0 2", "read 8 4 1 0 16", "harden", "read-sync 1 0 256",
-           "find 0 256", "silence 2", "noise 0 2 1 3", "element 4 1 3", "related 4 1 16 5",
+           "load-bits 16 0 0101", "load-bits 16 0 random 5", "set-sync 1 1 0 50 60", "clear-sync",
+           "settings", "start", "draw 3 3", "record 1 2 3 4", "record 1,2 3,4", "erase",
+           "show 0 2", "read 8 4 1 0 16", "harden", "read-sync 1 0 256", "find 0 256", "silence 2",
+           "noise 0 2 1 3", "element 4 1 3", "related 4 1 16 5",
            "code-group 9", "scrambling-chip 9 3", "primary-chip 48", "secondary-chip 1 16",
            "allocation 2 9 2 1", "burst-start 16", "code 4 1", "scrambling 9", "primary",
-           "secondary 1", "brief", "full", "help")
+           "secondary 1", "brief", "full", "refusals", "help")
 NO_NUMBERS = ("x", "-1", "-0", "4294967296", "99999999999999999999", "+1", "1.5", "0x1", "1,1",
               "1e1", "1" * 40, "4294967295000", "18446744073709551620")
 NO_COMPONENTS = ("x", "-", "--1", "+1", "1-", "1.5", "2147483648", "-2147483649", "4294967295",
@@ -20,6 +21,10 @@ NO_COMPONENTS = ("x", "-", "--1", "+1", "1-", "1.5", "2147483648", "-2147483649"
 NO_RECORDS = ("4,1", "4", "4,1,2,3", "4,,2", ",", ",,", "4,1,", ",1,2", "4,1,x", "x,1,2", "4,-1,2",
               "4,1,4294967296", "4,4294967296,1", "4294967296,1,1", "4,1,+2", "4.1.2", "4,1,2,",
               "4, 1, 2", "4;1;2")
+NO_CHIPS = (",", ",,", "3,", ",4", "3,4,5", "3,4,", ",3,4", "3,,4", "3,x", "x,4", "3,-", "-,4",
+            "--3,4", "3,4-", "+3,4", "3,+4", "3.5,4", "3,0x4", "2147483648,0", "0,2147483648",
+            "-2147483649,0", "0,-2147483649", "4294967296,1", "1,4294967297", "3,4;5,6", "(3,4)",
+            "9" * 33 + ",1", "1," + "9" * 33, "1,2\0", "\xff,1")
 NO_CALLS = (
     "START", "Start", "starts", "star", "s", "set_cell", "setcell", "set-cel", "set-cell-", "-",
     "--help", "?", "help?", "!", "'", "''", "~", "1", "0", "4,1,5", "ok", "fresh", "read_sync",
@@ -44,10 +49,10 @@ def glance(script):
     script.run(f"show {script.recorded() - 24} 24")
 
 
-def spoilt_words(name, n):
-    """What word n of this call cannot be: fewer of them after the first word of a call."""
+def spoilt_words(name, word, n):
+    """What this word, number n of the call, cannot be: fewer after the first word of a call."""
     if name == "record":
-        return NO_COMPONENTS
+        return NO_CHIPS if "," in word else NO_COMPONENTS
     if name == "load-plan":
         return NO_RECORDS
     return NO_NUMBERS if n == 0 else NO_NUMBERS[n % 2::2]
@@ -59,21 +64,19 @@ def bad_words(script, sample):
     for n in range(len(words) if name != "load-plan" else 0):  # a plan can be of any length
         script.add(" ".join([name, *words[:n]]))
     for n in range(len(words)):
-        for m, spoilt in enumerate(spoilt_words(name, n)):
+        for m, spoilt in enumerate(spoilt_words(name, words[n], n)):
             rest = words[n + 1:] if m % 3 else []
             script.add(" ".join([name, *words[:n], spoilt, *rest]))
     for more in ("7", "x", "7 x", "x 7", "a" * 33):
         if name in ("load-plan", "record"):
             break  # these take any number of words
-        if name == "load-bits":
-            more = "0101 " + more
         script.add(f"{sample} {more}")
 
 
 def every_form(script):
     script.say("words missing, spoilt and too many, for each call in turn")
     script.run("harden, harden x, read 3 4 1 0 0, harden, set-cell 3 1",
-               open_loaded(4, 1, 1, 30, 6), "open 8 6 40, set-sync 2 2 1 5 6, start, draw 300",
+               open_loaded(4, 1, 30, 6), "open 8 6 40, set-sync 2 2 1 5 6, start, draw 300",
                "read 3 4 1 0 64")
     for sample in SAMPLES:
         bad_words(script, sample)
@@ -99,6 +102,23 @@ def numbers_taken(script):
                "load-plan 4,1,30 8,6,40, record -00000000000000000002147483648 0000002147483647",
                "record 00000000000000000000000000000000000000000000001 -0 -1 -00, show 000 0002")
     script.run(f"show {script.recorded() - 3} 3, draw 007 7, draw 0 00, draw 0000000001")
+    glance(script)
+
+
+def chips_of_one_word(script):
+    """A word with a comma is a chip where one begins, and a bad im behind a re."""
+    script.say("record: chips of one word and of two, right and wrong")
+    script.empty()
+    for words in ("1 3,4", "1 3,4 5", "1 2 3,4", "1 2 3 4,5", "3,4 5", "3,4 5 6", "3,4 5 6,7",
+                  "3,4 x 5", "3,4 5 x", "x 3,4", "x,y 3,4", "1 2 x 3,4", "3, 4", "3 ,4", "3 , 4",
+                  "3,4 5,6 7", "3,4 5,6, 7", "3,4 ,", "3,4 5,6 7,8,9 x", "x 7,8,9", "7,8,9 x",
+                  "1 , 2", ", 1 2", "1 2 , 3", "1 2, 3 4", "1 2 ,3 4", "3,4#,5", "3#,4", "3,#4",
+                  "3,4 #5", "1 #3,4", "2147483647,2147483648", "-2147483648,-2147483649",
+                  "3,4\r5,6\t7 8", "-0,00 000000000000000000000000000000000000001,-00002",
+                  "-2147483648,2147483647 2147483647,-2147483648"):
+        script.add(f"record {words}")
+    script.run("show 0 0, record 7,8 9 10 11,-12")
+    script.run(f"show 0 {script.recorded()}")
     glance(script)
 
 
@@ -194,5 +214,5 @@ def long_lines(script):
     glance(script)
 
 
-WORD_FAULTS = (every_form, numbers_taken, no_words_of_digits, no_such_calls, many_faults,
-               blanks_and_comments, long_lines)
+WORD_FAULTS = (every_form, numbers_taken, chips_of_one_word, no_words_of_digits, no_such_calls,
+               many_faults, blanks_and_comments, long_lines)

@@ -4,6 +4,9 @@ What a call cannot have raises Fault, and has changed nothing. Nothing here is s
 crates.
 """
 
+from itertools import islice
+
+from .generator import states
 from .words import Fault
 
 LONGEST_RECORDING = 38400  # chips
@@ -12,9 +15,7 @@ LARGEST_NOISE = 100000
 
 def noise_numbers(count, seed, size):
     """So many numbers from -size to size."""
-    state = seed
-    for _ in range(count):
-        state = (state * 1664525 + 1013904223) % 2**32
+    for state in islice(states(seed), count):
         yield state // 256 % (2 * size + 1) - size
 
 
@@ -34,15 +35,14 @@ class Recording:
     def need_part(self, first, count):
         has = len(self)
         if first + count > has:
-            raise Fault(f"{count} chips from chip {first} on are not in the recording, which has "
-                        f"{has}; right is: FROM + COUNT at most {has}")
+            raise Fault(f"the recording ends before that; "
+                        f"right is: FROM + COUNT at most {has}")
 
     def need_room(self, count):
-        has = len(self)
-        left = LONGEST_RECORDING - has
+        left = LONGEST_RECORDING - len(self)
         if count > left:
-            raise Fault(f"{count} chips do not fit into the recording, which has {has} of "
-                        f"{LONGEST_RECORDING}; right is: at most {left}, or erase first")
+            raise Fault(f"there is no room for {count} more; "
+                        f"right is: at most {left}, or erase first")
 
     def part(self, first, count):
         self.need_part(first, count)
@@ -66,7 +66,7 @@ class Recording:
             re[n] += next(numbers)
             im[n] += next(numbers)
             if not (fits(re[n]) and fits(im[n])):
-                raise Fault(f"the noise takes chip {first + n} of the recording past 32 bits; "
-                            f"right is: sums from {-2**31} to {2**31 - 1}")
+                raise Fault(f"the noise takes chip {first + n} past 32 bits; "
+                            "right is: a smaller SIZE")
         self.re[first:first + count] = re
         self.im[first:first + count] = im

@@ -7,12 +7,18 @@ from re import findall
 
 from . import analyser, codes as rules
 from .bench import Bench
-from .manual import FORMS, HELP
+from .bits import loaded
+from .manual import FORMS, HELP, REFUSALS, words_of
+from .nearest import nearest
 from .recording import Recording
+from .refusals import bad_code, refused
+from .slot import SLOT, right_count
 from .telling import pair, told_bits, told_pairs
 from .words import Fault, quoted, values
 
 LONGEST_LINE = 65536  # bytes
+MARK = b"\xef\xbb\xbf"  # a byte order mark
+METHODS = {"settings": "all_settings"}  # of the bench, by call; any other has the call's name
 
 
 def is_refusal(value):
@@ -26,6 +32,11 @@ def with_ok(answer):
 def told(value, tell):
     """What a value is told as, or the refusal that stands in its place."""
     return value if is_refusal(value) else tell(value)
+
+
+def with_words(refusal, call):
+    """A refusal of this call, as in "refused 6 place 2", with its words."""
+    return f"{refusal}: {words_of(int(refusal.split()[1]), call)}"
 
 
 def yes_or_no(value):
@@ -93,6 +104,9 @@ class CodeCalls:
     def full(self):
         self.is_brief = False
 
+    def refusals(self):
+        return "\n".join(REFUSALS)
+
     def help(self):
         return "\n".join(HELP)
 
@@ -105,6 +119,26 @@ class ScriptBench(CodeCalls, Bench):
         super().__init__(codes)
         self.recording = Recording()
         self.readings = None  # of the last accepted read, re and im
+
+    def load_bits(self, q, k, *words):
+        closed = refused(*bad_code(q, k), self.not_open(q, k))
+        if closed:
+            return closed
+        return super().load_bits(q, k, loaded(right_count(q, self.settings.slot_type), *words))
+
+    def all_settings(self):
+        return "\n".join(self.settings_lines())
+
+    def settings_lines(self):
+        parameter, slot_type, channels, sync = self.settings
+        yield f"cell {parameter} group {parameter // 4} type {slot_type}"
+        for q, k in sorted(channels):
+            yield f"code ({q}, {k}) gain {channels[q, k][0]}"
+        if not channels:
+            yield "no code is open"
+        yield "sync case {} frame {} half {} gains {} {}".format(*sync) if sync else "no sync"
+        left = f"slot under way, {SLOT - self.tally} of {SLOT} chips left"
+        yield left if self.copy else "no slot under way"
 
     def draw(self, re_length, im_length=None):
         if im_length is None:
@@ -144,7 +178,7 @@ class ScriptBench(CodeCalls, Bench):
 
     def harden(self):
         if self.readings is None:
-            raise Fault("there are no readings to harden; right is: a read that is accepted first")
+            raise Fault("there are no readings yet; right is: a read that is accepted")
         bits = [0] * (2 * len(self.readings[0]))
         analyser.harden(*self.readings, bits)
         return f"ok {len(bits)}\n{told_bits(bits, self.is_brief)}"
@@ -158,34 +192,51 @@ class ScriptBench(CodeCalls, Bench):
         return with_ok(analyser.find(self.codes, *chips, *scratch))
 
 
-def answer(bench, line):
-    """What a line is answered, or None where it has no word; raises Fault where it is no call."""
+def call_of(words):
+    """The name of the call that these words are; raises Fault where they are none."""
+    name = words[0].decode("latin-1")  # which has a character for every byte
+    if name in FORMS:
+        return name
+    near = nearest(words[0], FORMS)
+    right = f"nearest is: {FORMS[near]}" if near else "right is: one of those that help lists"
+    raise Fault(f"{quoted(words[0])} is no call; {right}")
+
+
+def answer(bench, line, passed=0):
+    """What a line is answered whose first bytes, so many, are passed over; None where it has no
+    word. Raises Fault where it is no call."""
     if len(line) > LONGEST_LINE:
         raise Fault(f"the line has more than {LONGEST_LINE} bytes; "
                     f"right is: at most {LONGEST_LINE}")
-    words = findall(rb"[^ \t\r]+", line.partition(b"#")[0])
+    words = findall(rb"[^ \t\r]+", line[passed:].partition(b"#")[0])
     if not words:
         return None
-    name = words[0].decode("latin-1")  # which has a character for every byte
-    if name not in FORMS:
-        raise Fault(f"{quoted(words[0])} is no call; right is: one of those that help lists")
+    name = call_of(words)
     arguments = values(FORMS[name], words[1:])
-    result = getattr(bench, name.replace("-", "_"))(*arguments)
-    return "ok" if result is None else result
+    result = getattr(bench, METHODS.get(name, name.replace("-", "_")))(*arguments)
+    if result is None:
+        return "ok"
+    return with_words(result, name) if is_refusal(result) and not bench.is_brief else result
 
 
-def answer_or_fault(bench, at, line):
+def answer_or_fault(bench, at, line, passed):
     """What line number `at` is answered, or None where it has no word."""
     try:
-        return answer(bench, line)
+        return answer(bench, line, passed)
     except Fault as fault:
         return f"line {at}: {fault}"
 
 
+def passed_over(script):
+    """How many bytes at the start of a script are passed over."""
+    return len(MARK) if script.startswith(MARK) else 0
+
+
 def answers(codes, script):
     """The answers to a script, from a fresh bench on."""
-    bench = ScriptBench(codes)
+    bench, passed = ScriptBench(codes), passed_over(script)
     for at, line in enumerate(script.split(b"\n"), 1):
-        result = answer_or_fault(bench, at, line)
+        result = answer_or_fault(bench, at, line, passed)
+        passed = 0
         if result is not None:
             yield result

@@ -13,6 +13,7 @@ use script::rows::NOISE;
 use script::rows::READ;
 use script::rows::READ_SYNC;
 use script::rows::RECORD;
+use script::rows::REFUSALS;
 use script::rows::SHOW;
 use script::rows::SILENCE;
 
@@ -65,6 +66,7 @@ fn answered(row: usize, x: [u32; 5], line: &[u8], r: Recording, m: &mut Memory) 
         HARDEN => reading::harden(r.readings, m),
         BRIEF => LineAnswer::Brief(true),
         FULL => LineAnswer::Brief(false),
+        REFUSALS => LineAnswer::Refusals,
         HELP => LineAnswer::Help,
         _ => {
             if row > FIND {
@@ -128,5 +130,5 @@ fn unfit(size: u32, chips: usize, p: Part) -> Fault {
             return Fault::None;
         }
     }
-    Fault::Outside(p.from, p.count)
+    Fault::Outside
 }

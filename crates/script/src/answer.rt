@@ -32,6 +32,9 @@ pub enum LineAnswer {
     Readings(usize),
     // So many bits, at LINE.
     Bits(usize),
+    // So many open codes, whether a sync burst is set and whether a slot is under way; the numbers stand at LINE, as setting_lines puts them there.
+    Settings(usize, bool, bool),
+    Refusals,
     Help,
     Wrong(Fault),
 }

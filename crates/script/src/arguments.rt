@@ -32,10 +32,13 @@ pub fn parsed(forms: &[u8], line: &[u8]) -> Line {
         };
     }
     let w = words::next(line, 0);
-    let form = forms::named(forms, words::part(line, w.from, w.to));
+    let name = words::part(line, w.from, w.to);
+    let form = forms::named(forms, name);
     let row = form.row;
+    if row == 0 {
+        return no_call(forms, name, w);
+    }
     let numbers = match row {
-        0 => none(unknown(w), w.to),
         RECORD => none(Fault::None, w.to),
         DRAW => lengths(line, w.to),
         _ => all(words::part(forms, form.from, form.to), line, w.to),
@@ -43,11 +46,25 @@ pub fn parsed(forms: &[u8], line: &[u8]) -> Line {
     Line { form, numbers }
 }
 
-fn unknown(w: words::Word) -> Fault {
-    if w.from == w.to {
-        return Fault::None;
+// A line whose first word is no call, or that has none. Where a call is near, its form goes with it.
+fn no_call(forms: &[u8], name: &[u8], w: words::Word) -> Line {
+    if name.len() == 0 {
+        return Line {
+            form: forms::named(forms, b""),
+            numbers: none(Fault::None, w.to),
+        };
     }
-    Fault::Unknown(w)
+    let mut form = forms::nearest(forms, name);
+    let fault = if form.row == 0 {
+        Fault::Unknown(w)
+    } else {
+        Fault::Near(w)
+    };
+    form.row = 0;
+    Line {
+        form,
+        numbers: none(fault, w.to),
+    }
 }
 
 fn none(fault: Fault, rest: usize) -> Numbers {
@@ -61,10 +78,15 @@ fn none(fault: Fault, rest: usize) -> Numbers {
 // The numbers that the form asks for. Where it has no words in brackets, nothing may follow them.
 fn all(form: &[u8], line: &[u8], at: usize) -> Numbers {
     let wanted = forms::wanted(form);
-    let read = first(wanted.count, line, at);
     if wanted.more {
-        return read;
+        return first(wanted.count, line, at);
     }
+    just(wanted.count, line, at)
+}
+
+// So many numbers of a line at or after `at`, at most five, and nothing after them.
+pub fn just(count: usize, line: &[u8], at: usize) -> Numbers {
+    let read = first(count, line, at);
     let fault = read.fault;
     let x = read.x;
     ended(fault, x, line, read.rest)
@@ -92,10 +114,7 @@ fn lengths(line: &[u8], at: usize) -> Numbers {
         x[1] = x[0];
         return ended(fault, x, line, one.rest);
     }
-    let two = first(2, line, at);
-    let fault = two.fault;
-    let x = two.x;
-    ended(fault, x, line, two.rest)
+    just(2, line, at)
 }
 
 // Fault::Extra where the line has a word at or after `at`.
@@ -156,7 +175,13 @@ pub enum Chip {
     Not(Fault),
 }
 
+// A chip is one word where that has a comma, and else two.
 pub fn next_chip(line: &[u8], at: usize) -> Chip {
+    let w = words::next(line, at);
+    let word = words::part(line, w.from, w.to);
+    if words::index(word, 0, b',') < word.len() {
+        return in_one_word(word, w);
+    }
     match next_component(line, at) {
         Value::End => Chip::End,
         Value::Not(fault) => Chip::Not(fault),
@@ -164,6 +189,19 @@ pub fn next_chip(line: &[u8], at: usize) -> Chip {
             Value::End => Chip::Not(Fault::Missing),
             Value::Not(fault) => Chip::Not(fault),
             Value::Is(im, last) => Chip::Is(re, im, last),
+        },
+    }
+}
+
+// A chip as `show` tells it: re, a comma, im.
+fn in_one_word(word: &[u8], w: words::Word) -> Chip {
+    let comma = words::index(word, 0, b',');
+    let from = std::num::wrapping_add_usize(comma, 1);
+    match numbers::to_component(words::part(word, 0, comma)) {
+        Component::Bad => Chip::Not(Fault::NoChip(w)),
+        Component::Is(re) => match numbers::to_component(words::part(word, from, word.len())) {
+            Component::Bad => Chip::Not(Fault::NoChip(w)),
+            Component::Is(im) => Chip::Is(re, im, w.to),
         },
     }
 }

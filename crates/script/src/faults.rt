@@ -4,16 +4,19 @@ use text::words::Word;
 pub enum Fault {
     None,
     Unknown(Word),
+    // The same, where the line's form is that of a call near to it.
+    Near(Word),
     Missing,
     Extra(Word),
     NoNumber(Word),
     NoComponent(Word),
+    NoChip(Word),
     NoRecord(Word),
     NoBits(Word),
     // A noise of this size is too large.
     Loud(u32),
-    // From this chip on so many are not in the recording.
-    Outside(u32, u32),
+    // A part that goes past the recording's end.
+    Outside,
     // So many chips do not fit into the recording.
     Full(usize),
     NoReadings,

@@ -65,7 +65,7 @@ fn with_noise(m: &Memory, i: usize, state: u32, size: u32) -> Noisy {
 }
 
 // The generator's next state.
-fn next(state: u32) -> u32 {
+pub fn next(state: u32) -> u32 {
     ((state as u64 * 1664525 + 1013904223) % 4294967296) as u32
 }
 

@@ -57,8 +57,8 @@ enum Record {
 }
 
 fn to_record(w: &[u8]) -> Record {
-    let one = comma(w, 0);
-    let two = comma(w, std::num::wrapping_add_usize(one, 1));
+    let one = words::index(w, 0, b',');
+    let two = words::index(w, std::num::wrapping_add_usize(one, 1), b',');
     let q = field(w, 0, one);
     let k = field(w, std::num::wrapping_add_usize(one, 1), two);
     let gain = field(w, std::num::wrapping_add_usize(two, 1), w.len());
@@ -76,14 +76,4 @@ fn to_record(w: &[u8]) -> Record {
 
 fn field(w: &[u8], from: usize, to: usize) -> Natural {
     numbers::to_natural(words::part(w, from, to))
-}
-
-// The index of the first comma of w at or after `from`, or where w ends.
-fn comma(w: &[u8], from: usize) -> usize {
-    for i in from..w.len() {
-        if w[i] == b',' {
-            return i;
-        }
-    }
-    w.len()
 }

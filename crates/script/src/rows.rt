@@ -15,54 +15,58 @@ pub const SET_SYNC: usize = 7;
 
 pub const CLEAR_SYNC: usize = 8;
 
-pub const START: usize = 9;
+pub const SETTINGS: usize = 9;
 
-pub const DRAW: usize = 10;
+pub const START: usize = 10;
 
-pub const RECORD: usize = 11;
+pub const DRAW: usize = 11;
 
-pub const SILENCE: usize = 12;
+pub const RECORD: usize = 12;
 
-pub const NOISE: usize = 13;
+pub const SILENCE: usize = 13;
 
-pub const ERASE: usize = 14;
+pub const NOISE: usize = 14;
 
-pub const SHOW: usize = 15;
+pub const ERASE: usize = 15;
 
-pub const READ: usize = 16;
+pub const SHOW: usize = 16;
 
-pub const HARDEN: usize = 17;
+pub const READ: usize = 17;
 
-pub const READ_SYNC: usize = 18;
+pub const HARDEN: usize = 18;
 
-pub const FIND: usize = 19;
+pub const READ_SYNC: usize = 19;
 
-pub const ELEMENT: usize = 20;
+pub const FIND: usize = 20;
 
-pub const RELATED: usize = 21;
+pub const ELEMENT: usize = 21;
 
-pub const CODE_GROUP: usize = 22;
+pub const RELATED: usize = 22;
 
-pub const SCRAMBLING_CHIP: usize = 23;
+pub const CODE_GROUP: usize = 23;
 
-pub const PRIMARY_CHIP: usize = 24;
+pub const SCRAMBLING_CHIP: usize = 24;
 
-pub const SECONDARY_CHIP: usize = 25;
+pub const PRIMARY_CHIP: usize = 25;
 
-pub const ALLOCATION: usize = 26;
+pub const SECONDARY_CHIP: usize = 26;
 
-pub const BURST_START: usize = 27;
+pub const ALLOCATION: usize = 27;
 
-pub const CODE: usize = 28;
+pub const BURST_START: usize = 28;
 
-pub const SCRAMBLING: usize = 29;
+pub const CODE: usize = 29;
 
-pub const PRIMARY: usize = 30;
+pub const SCRAMBLING: usize = 30;
 
-pub const SECONDARY: usize = 31;
+pub const PRIMARY: usize = 31;
 
-pub const BRIEF: usize = 32;
+pub const SECONDARY: usize = 32;
 
-pub const FULL: usize = 33;
+pub const BRIEF: usize = 33;
 
-pub const HELP: usize = 34;
+pub const FULL: usize = 34;
+
+pub const REFUSALS: usize = 35;
+
+pub const HELP: usize = 36;

@@ -1,10 +1,10 @@
 // A line from its bytes to its answer.
-use answer_text::Context;
 use bench_lines::State;
 use script::arguments;
 use script::memory::Memory;
+use sentences::Context;
 use text::answers::Answers;
-use text::words;
+use text::lines;
 
 // The state, and how many bytes of the answers are used.
 pub struct Now {
@@ -23,7 +23,7 @@ pub fn answer(
     out: &mut Answers,
     m: &mut Memory,
 ) -> Now {
-    let line = words::part(buf, from, to);
+    let line = lines::numbered(buf, from, to, at);
     let parsed = arguments::parsed(forms, line);
     let form = parsed.form;
     let numbers = parsed.numbers;

@@ -3,6 +3,7 @@ use crate::answers;
 use crate::answers::Answers;
 use crate::answers::FAILED;
 use crate::files::Ending;
+use crate::words;
 
 // One byte more than the longest line, for its line end.
 pub const ROOM: usize = 65537;
@@ -138,6 +139,15 @@ pub fn refill(buf: &mut Buffer, out: &Answers, n: usize, input: Input) -> Refill
     }
     let next = filled.input;
     Refilled::Has(next)
+}
+
+// Line number `at`, buf[from..to]: line 1 without its byte order mark, where it has one and is not too long.
+pub fn numbered(buf: &[u8], from: usize, to: usize, at: u64) -> &[u8] {
+    let line = words::part(buf, from, to);
+    if at == 1 && line.len() < ROOM && words::same(words::part(line, 0, 3), b"\xef\xbb\xbf") {
+        return words::part(line, 3, line.len());
+    }
+    line
 }
 
 // Drops what waits of a line that is too long.

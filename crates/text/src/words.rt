@@ -84,3 +84,13 @@ pub fn part(s: &[u8], from: usize, to: usize) -> &[u8] {
 pub fn byte(s: &[u8], i: usize) -> u8 {
     if i < s.len() { s[i] } else { b' ' }
 }
+
+// The index of the first byte b of s at or after `from`, or where s ends.
+pub fn index(s: &[u8], from: usize, b: u8) -> usize {
+    for i in from..s.len() {
+        if s[i] == b {
+            return i;
+        }
+    }
+    s.len()
+}

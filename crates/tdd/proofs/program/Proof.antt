@@ -7,4 +7,4 @@ use Rattle.tdd.proofs.program.Tie as tie
 pub program-spec : {M : Type 1} → statement M
 program-spec =
     tie.close
-    (tie.spec (λ _ _ _ _. Unit {0}) (λ _ count _ i. count - i) (λ c κs. search needs) (λ c κs. search needs) (λ c. search needs) (λ c κs. search needs) (λ c. search needs) (λ c. search needs) (λ c κs. search needs) (λ c. search needs) (λ c. search needs) (λ c. search needs) (λ c. search needs) (λ c. search needs))
+    (tie.spec (λ _ _ _ _. Unit {0}) (λ _ count _ i. count - i) (λ c κs. search needs) (λ c κs. search needs) (λ c. search needs) (λ c. search needs) (λ c κs. search needs) (λ c. search needs) (λ c. search needs) (λ c. search needs) (λ c. search needs) (λ c. search needs))

@@ -1,4 +1,4 @@
-// The answers that are one sentence: which one, and the numbers in it.
+// Which sentence an answer is, and the numbers in it.
 use script::answer::LineAnswer;
 use script::faults::Fault;
 use text::complement;
@@ -31,55 +31,72 @@ const PEAK: usize = 12;
 
 const UNKNOWN: usize = 13;
 
-const MISSING: usize = 14;
+const NEAR: usize = 14;
 
-const EXTRA: usize = 15;
+const MISSING: usize = 15;
 
-const NO_NUMBER: usize = 16;
+const EXTRA: usize = 16;
 
-const NO_COMPONENT: usize = 17;
+const NO_NUMBER: usize = 17;
 
-const NO_RECORD: usize = 18;
+const NO_COMPONENT: usize = 18;
 
-const NO_BITS: usize = 19;
+const NO_CHIP: usize = 19;
 
-const LOUD: usize = 20;
+const NO_RECORD: usize = 20;
 
-const OUTSIDE: usize = 21;
+const NO_BITS: usize = 21;
 
-const FULL: usize = 22;
+const LOUD: usize = 22;
 
-const NO_READINGS: usize = 23;
+const OUTSIDE: usize = 23;
 
-const PAST: usize = 24;
+const FULL: usize = 24;
 
-const LONG: usize = 25;
+const NO_READINGS: usize = 25;
+
+const PAST: usize = 26;
+
+const LONG: usize = 27;
+
+pub const CELL: usize = 28;
+
+pub const CODE: usize = 29;
+
+pub const NO_CODE: usize = 30;
+
+pub const SYNC: usize = 31;
+
+pub const NO_SYNC: usize = 32;
+
+pub const UNDER_WAY: usize = 33;
+
+pub const NO_SLOT: usize = 34;
 
 // A row, its numbers, and the word of the line that it quotes.
 pub struct Sentence {
     pub row: usize,
-    pub x: u64,
-    pub y: u64,
-    pub z: u64,
+    pub x: [u64; 5],
     pub word: Word,
 }
 
-fn plain(row: usize, x: u64, y: u64, z: u64) -> Sentence {
+// A row with these numbers.
+pub fn with(row: usize, x: [u64; 5]) -> Sentence {
     Sentence {
         row,
         x,
-        y,
-        z,
         word: Word { from: 0, to: 0 },
     }
+}
+
+fn plain(row: usize, x: u64, y: u64, z: u64) -> Sentence {
+    with(row, [x, y, z, 0, 0])
 }
 
 fn quoting(row: usize, word: Word) -> Sentence {
     Sentence {
         row,
-        x: 0,
-        y: 0,
-        z: 0,
+        x: [0; 5],
         word,
     }
 }
@@ -117,13 +134,15 @@ pub fn of_answer(a: LineAnswer) -> Sentence {
 fn of_fault(fault: Fault) -> Sentence {
     match fault {
         Fault::Unknown(w) => quoting(UNKNOWN, w),
+        Fault::Near(w) => quoting(NEAR, w),
         Fault::Extra(w) => quoting(EXTRA, w),
         Fault::NoNumber(w) => quoting(NO_NUMBER, w),
         Fault::NoComponent(w) => quoting(NO_COMPONENT, w),
+        Fault::NoChip(w) => quoting(NO_CHIP, w),
         Fault::NoRecord(w) => quoting(NO_RECORD, w),
         Fault::NoBits(w) => quoting(NO_BITS, w),
         Fault::Loud(size) => plain(LOUD, size as u64, 0, 0),
-        Fault::Outside(from, count) => plain(OUTSIDE, count as u64, from as u64, 0),
+        Fault::Outside => plain(OUTSIDE, 0, 0, 0),
         Fault::Full(count) => plain(FULL, count as u64, 0, 0),
         Fault::NoReadings => plain(NO_READINGS, 0, 0, 0),
         Fault::Past(chip) => plain(PAST, chip as u64, 0, 0),

@@ -1,8 +1,8 @@
 -- `records` is safe, and ends: with each turn fewer records are left. Assumes nothing.
 use Prim.Native.Nat.{_-_}
 use borrow.Author.Needs.{needs}
-use Rattle.bench_lines.proofs.records.Statement.{statement}
-use Rattle.bench_lines.proofs.records.Tie as tie
+use Rattle.setting_lines.proofs.records.Statement.{statement}
+use Rattle.setting_lines.proofs.records.Tie as tie
 
 pub records-spec : {M : Type 1} → statement M
 records-spec =

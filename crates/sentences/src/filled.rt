@@ -1,6 +1,7 @@
-// The sentences of the answers, and how one is filled with numbers and words.
+// The sentences, and how one is filled with numbers and words.
 use crate::Context;
-use crate::sentences::Sentence;
+use crate::refusals;
+use crate::sentences_of::Sentence;
 use script::forms;
 use script::memory::CHIPS;
 use text::answers;
@@ -9,8 +10,8 @@ use text::complement;
 use text::words;
 
 // Writes the sentence s. In a row # is its next number, ~ its next number with the sign, * its next number as a sync code with its unit, ! the number of the line,
-// & how many chips the recording has and ^ how many more it takes, ' the word of the line that is wrong, @ the form of its call. The numbers of the rows
-// are in sentences.rt.
+// & how many chips the recording has and ^ how many more it takes, ' the word of the line that is wrong, @ the form of its call, % the words of the refusal whose number
+// comes first. The numbers of the rows are in sentences_of.rt.
 pub fn print(
     out: &mut Answers,
     n: usize,
@@ -22,8 +23,8 @@ pub fn print(
     let row = forms::row(
         b"ok
 ok #
-refused #
-refused # place #
+refused #%
+refused # place #%
 yes
 no
 #
@@ -33,18 +34,27 @@ no
 ok group # frame # half #
 ok at # size #
 line !: ' is no call; right is: one of those that help lists
+line !: ' is no call; nearest is: @
 line !: a word is missing; right is: @
 line !: ' is a word too many; right is: @
-line !: ' is no whole number from 0 to 4294967295; right is: @
-line !: ' is no whole number from -2147483648 to 2147483647; right is: @
-line !: ' is no record of three whole numbers from 0 to 4294967295; right is: @
+line !: ' is no number from 0 to 4294967295; right is: @
+line !: ' is no number from -2147483648 to 2147483647; right is: @
+line !: ' is no chip of two numbers; right is: @
+line !: ' is no record of three numbers; right is: @
 line !: ' is no word of digits; right is: @
 line !: a noise of size # is too large; right is: at most 100000
-line !: # chips from chip # on are not in the recording, which has &; right is: FROM + COUNT at most &
-line !: # chips do not fit into the recording, which has & of 38400; right is: at most ^, or erase first
-line !: there are no readings to harden; right is: a read that is accepted first
-line !: the noise takes chip # of the recording past 32 bits; right is: sums from -2147483648 to 2147483647
+line !: the recording ends before that; right is: FROM + COUNT at most &
+line !: there is no room for # more; right is: at most ^, or erase first
+line !: there are no readings yet; right is: a read that is accepted
+line !: the noise takes chip # past 32 bits; right is: a smaller SIZE
 line !: the line has more than 65536 bytes; right is: at most 65536
+cell # group # type #
+code (#, #) gain #
+no code is open
+sync case # frame # half # gains # #
+no sync
+slot under way, # of 2560 chips left
+no slot under way
 ",
         s.row,
     );
@@ -69,6 +79,7 @@ fn filled(
         m = match b {
             b'\'' => answers::quoted(out, m, word),
             b'@' => answers::text(out, m, words::part(form, 0, forms::end(form))),
+            b'%' => words_of(out, m, number(b'#', 0, s, c), c, form),
             _ => item(out, m, b, number(b, at, s, c)),
         };
         if is_next(b) {
@@ -95,12 +106,21 @@ fn number(b: u8, at: usize, s: Sentence, c: Context) -> u64 {
         b'!' => c.at,
         b'&' => r.chips as u64,
         b'^' => std::num::wrapping_sub_usize(CHIPS, r.chips) as u64,
-        _ => match at {
-            0 => s.x,
-            1 => s.y,
-            _ => s.z,
-        },
+        _ => {
+            let x = s.x;
+            if at < 5 { x[at] } else { 0 }
+        }
     }
+}
+
+// The words of a refusal of the call with this form; none in brief.
+fn words_of(out: &mut Answers, n: usize, number: u64, c: Context, form: &[u8]) -> usize {
+    let r = c.recording;
+    if r.brief {
+        return n;
+    }
+    let name = words::next(form, 0);
+    refusals::print(out, n, number, words::part(form, name.from, name.to))
 }
 
 // A byte of a row; where it stands for the number x, that.

@@ -1,0 +1,14 @@
+// The answers that are one sentence, and the words of the refusals.
+use recording_lines::Recording;
+use script::forms::Form;
+
+pub mod filled;
+pub mod refusals;
+pub mod sentences_of;
+
+// Where an answer is due: the line's number in the script, its form, and the recording that it found.
+pub struct Context {
+    pub at: u64,
+    pub form: Form,
+    pub recording: Recording,
+}

@@ -1,0 +1,59 @@
+// How near a word is to a name.
+use crate::words;
+
+// The distance of a word that is nowhere near.
+pub const FAR: u32 = 2;
+
+// b, with A to Z as a to z.
+fn small(b: u8) -> u8 {
+    if b < b'A' {
+        return b;
+    }
+    if b > b'Z' {
+        return b;
+    }
+    b + 32
+}
+
+// The index of the first byte in which the two differ but for case, or where one of them ends.
+fn differ(a: &[u8], b: &[u8]) -> usize {
+    for i in 0..a.len() {
+        if i >= b.len() {
+            return i;
+        }
+        if small(a[i]) != small(b[i]) {
+            return i;
+        }
+    }
+    a.len()
+}
+
+// Whether a[i..] and b[j..] are the same but for case.
+fn alike(a: &[u8], i: usize, b: &[u8], j: usize) -> bool {
+    let x = words::part(a, i, a.len());
+    let y = words::part(b, j, b.len());
+    x.len() == y.len() && differ(x, y) == x.len()
+}
+
+// Whether bytes i and j of a are bytes j and i of b but for case.
+fn exchanged(a: &[u8], b: &[u8], i: usize, j: usize) -> bool {
+    small(words::byte(a, i)) == small(words::byte(b, j))
+        && small(words::byte(a, j)) == small(words::byte(b, i))
+}
+
+// 0 where the word is the name but for case; 1 where one character put in, left out or changed, or two neighbours exchanged, make it that; else FAR.
+pub fn distance(word: &[u8], name: &[u8]) -> u32 {
+    if alike(word, 0, name, 0) {
+        return 0;
+    }
+    let i = differ(word, name);
+    let j = std::num::wrapping_add_usize(i, 1);
+    if alike(word, j, name, j) || alike(word, i, name, j) || alike(word, j, name, i) {
+        return 1;
+    }
+    let k = std::num::wrapping_add_usize(i, 2);
+    if exchanged(word, name, i, j) && alike(word, k, name, k) {
+        return 1;
+    }
+    FAR
+}
