@@ -1,11 +1,16 @@
 #!/bin/sh
-# Runs the program as a user does, by ./tdd: each lesson gives the answers of its file .out and those that its comments quote; a script
-# from a file, a pipe or several files gives the same; what cannot be read or written is told; answers come before the next line is
+# Runs the program as a user does, by ./tdd: its options, and its build where one is due; each lesson gives the answers of its file .out and
+# those that its comments quote; README and manual show what the program says; a script from a file, a pipe or several files gives the same;
+# what cannot be read or written is told; --check finds what differs; answers have the manual's words, and come before the next line is
 # waited for; 10,000 calls take a few seconds. (rt ci runs the program on the scripts of crates/tdd/data.)
 set -eu
 cd "$(dirname "$0")/.."
 room=$(mktemp -d)
 trap 'rm -rf "$room"' EXIT
+mkdir "$room/tmp"
+export room TMPDIR="$room/tmp" # where the command's own files would be left
+tdd=$PWD/tdd
+first=lessons/first-slot
 
 fail() {
     echo "tdd: $1" >&2
@@ -20,50 +25,165 @@ same() {
     }
 }
 
+# runs COMMAND...: keeps its status, what it prints and what it says on standard error
+runs() {
+    status=0
+    "$@" >"$room/found" 2>"$room/said" || status=$?
+}
+
 # told WHAT STATUS WORDS: what the last run ended with and said on standard error
 told() {
-    [ "$status" = "$2" ] || fail "$1 ends with status $status, and should end with $2"
+    [ "$status" = "$2" ] || fail "$1 ends with status $status, and should end with $2; it says '$(cat "$room/said")'"
     [ "$(cat "$room/said")" = "$3" ] || fail "$1 says '$(cat "$room/said")', and should say '$3'"
 }
 
+# printed WHAT LINES: what the last run printed
+printed() {
+    printf '%s\n' "$2" >"$room/due"
+    same "what is printed by $1" "$room/found" "$room/due"
+}
+
+# narrow WHAT FILE: it has lines, and none of more than 80 columns
+narrow() {
+    [ -s "$2" ] || fail "$1 is empty"
+    ! LC_ALL=C grep '.\{81\}' "$2" >&2 || fail "$1 has lines of more than 80 columns (above)"
+}
+
+# A copy of the command with nothing built, and a path on which there is little.
+mkdir -p "$room/copy/crates" "$room/copy/host" "$room/little" "$room/rt"
+cp tdd crates.txt "$room/copy"
+sed 's/^version = .*/version = "7.8.9"/' host/Cargo.toml >"$room/copy/host/Cargo.toml"
+for tool in dirname readlink sed; do ln -s "$(command -v $tool)" "$room/little"; done
+bare() { runs env PATH="$room/little" "$room/copy/tdd" "$@"; }
+bare --help <&-
+told "--help with no build and no standard input" 0 ""
+narrow "what --help says" "$room/found"
+[ "$(wc -l <"$room/found")" -le 24 ] || fail "--help says more than 24 lines"
+for words in './tdd [SCRIPT]...' './tdd --check SCRIPT...' './tdd --help' './tdd --version' 'The script - is' '# -> ' 'status  0' ' 141  ' \
+    'help for the list' 'docs/TDD.md'; do
+    grep -qF -- "$words" "$room/found" || fail "--help does not have '$words'"
+done
+cp "$room/found" "$room/help"
+bare --help open
+told "--help with a word after it" 0 ""
+same "--help with a word after it" "$room/found" "$room/help"
+bare --version <&-
+told "--version with no build and no standard input" 0 ""
+printed "--version, which is that of host/Cargo.toml" "tdd 7.8.9"
+runs sh -c './tdd --help >&-'
+told "--help without standard output" 1 "tdd: cannot write to standard output: it is closed"
+runs sh -c './tdd --help >/dev/full'
+told "--help that cannot be written" 1 "tdd: cannot write to standard output"
+
+for word in --chek -h -- -x.txt '-a\n%s'; do
+    due="tdd: $word is no option; right is: --check, --help, --version, or ./$word for a file of that name"
+    bare "$word"
+    told "the option $word" 2 "$due"
+    bare --check $first.txt "$word"
+    told "the option $word after a name" 2 "$due"
+done
+for word in --check --help --version; do
+    due="tdd: $word is not the first word; right is: one option, before all names, or ./$word for a file of that name"
+    bare $first.txt $word
+    told "$word after a name" 2 "$due"
+    bare --check $word
+    told "$word after another option" 2 "$due"
+done
+bare --check
+told "--check without a script" 2 "tdd: --check has no script to check; right is: ./tdd --check SCRIPT..., where - is standard input"
+
+bare $first.txt
+told "a run with no program and no rt" 2 \
+    "tdd: the program is not built, and rt is not on the path: install the Rattle toolchain that README.md names"
 ./tdd </dev/null # proves and builds the program
+# In the copy, an rt that hands out the program with its old time, or fails where crates/wrong is there.
+printf '%s\n' '#!/bin/sh' 'echo "rt $*"' '[ ! -e crates/wrong ] && mkdir -p target/bin && cp -p "$proved" target/bin/tdd' >"$room/rt/rt"
+chmod +x "$room/rt/rt"
+export proved="$PWD/target/bin/tdd"
+proving="tdd: proving and building the program, which takes some minutes the first time"
+# copied WHAT STATUS WORDS: what a run of the copy ends with and says; where that is 0, it gives the answers that it must
+copied() {
+    runs env PATH="$room/rt:$PATH" "$room/copy/tdd" $first.txt
+    told "$1" "$2" "$3"
+    [ "$2" != 0 ] || same "$1" "$room/found" $first.out
+}
+copied "the first run" 0 "$proving"
+copied "the second run" 0 ""
+touch -d '1 hour' "$room/copy/crates/new"
+copied "a run after a source was changed" 0 "$proving"
+touch "$room/copy/crates/wrong"
+copied "a run of a program that is not proved" 2 "$proving
+rt check tdd
+tdd: the program is not proved; target/tdd.log says why"
+[ ! -e "$room/copy/target/bin/tdd" ] || fail "a program that is not proved stays"
+rm -r "$room/copy/crates"
+mkdir "$room/copy/crates"
+printf '%s\n' '#!/bin/sh' 'exit 7' >"$room/copy/target/bin/tdd"
+chmod +x "$room/copy/target/bin/tdd"
+copied "a run of a program that breaks off" 7 "tdd: the program ended with status 7"
+runs "$room/copy/tdd" --check $first.txt
+told "--check with a program that breaks off" 1 "tdd: the program ended with status 7"
+echo "tdd: --help, --version, options that are none; the program is built where it must be"
 
 lessons=0
 for lesson in lessons/*.txt; do
-    due=${lesson%.txt}.out
-    ./tdd "$lesson" >"$room/found"
-    same "the answers of $lesson" "$room/found" "$due"
-    sed -n 's/.*# -> //p' "$lesson" >"$room/quoted"
-    same "what the comments of $lesson quote" "$room/quoted" "$due"
+    runs ./tdd "$lesson"
+    told "the run of $lesson" 0 ""
+    same "the answers of $lesson" "$room/found" "${lesson%.txt}.out"
+    runs ./tdd --check "$lesson"
+    told "the check of $lesson" 0 ""
+    printed "the check of $lesson" "$lesson: $(wc -l <"${lesson%.txt}.out") answers, all as quoted"
     lessons=$((lessons + 1))
 done
 [ $lessons -gt 0 ] || fail "lessons has no script"
 echo "tdd: $lessons lessons give the answers that they must, and quote them"
 
-# holds FILE TEXT: the file has the text, indented
-holds() {
-    case $(cat "$1") in *"$(printf '%s\n' "$2" | sed 's/^/    /')"*) ;; *) fail "$1 does not show, indented: $2" ;; esac
+# block WORD: the first indented block of README.md whose first line begins with it
+block() {
+    awk -v word="    $1" '
+        /^    / { if (!inside++) shown = index($0, word) == 1; if (shown) print substr($0, 5) }
+        !/^    / { if (shown) exit; inside = 0 }' README.md
 }
-holds README.md "$(cat lessons/first-slot.out)"
-holds docs/TDD.md "$(echo help | ./tdd)"
-echo "tdd: README shows the first lesson's answers, docs/TDD.md what help says"
+block set-cell >"$room/script"
+block ok >"$room/due"
+[ -s "$room/script" ] && [ -s "$room/due" ] || fail "README.md has no indented script that begins with set-cell, or no answers that begin with ok"
+runs ./tdd "$room/script"
+told "README's script" 0 ""
+same "the answers of README's script" "$room/found" "$room/due"
+case $(cat README.md) in *"$(sed 's/^/    /' $first.out)"*) ;; *) fail "README.md does not show, indented, the answers of $first.txt" ;; esac
+for call in help refusals; do
+    echo $call | ./tdd >"$room/found"
+    sed -n "/^## What $call says\$/,/^## /s/^    //p" docs/TDD.md >"$room/due"
+    same "what $call says, and docs/TDD.md shows" "$room/found" "$room/due"
+    narrow "what $call says" "$room/found"
+done
+printf 'brief\nrefusals\n' | ./tdd | sed 1d >"$room/found"
+same "what refusals says in brief" "$room/found" "$room/due"
+echo "tdd: README shows the first lesson's answers and a script that runs as it stands, docs/TDD.md what help and refusals say"
 
-first=lessons/first-slot
 ./tdd <$first.txt >"$room/found"
 same "a script on standard input" "$room/found" $first.out
 while IFS= read -r line; do printf '%s\n' "$line"; done <$first.txt | ./tdd | cat >"$room/found"
 same "a script through a pipe" "$room/found" $first.out
-(cd lessons && ../tdd first-slot.txt refused-plan.txt) >"$room/found"
+runs ./tdd - <$first.txt
+told "a run of -" 0 ""
+same "the script -" "$room/found" $first.out
+(cd lessons && ../tdd first-slot.txt - refused-plan.txt <two-codes.txt) >"$room/found"
 {
     echo "==> first-slot.txt <=="
     cat $first.out
+    echo "==> - <=="
+    cat lessons/two-codes.out
     echo "==> refused-plan.txt <=="
     cat lessons/refused-plan.out
 } >"$room/due"
-same "two scripts, each from a fresh bench" "$room/found" "$room/due"
+same "three scripts, the second on standard input, each from a fresh bench" "$room/found" "$room/due"
+printf 'start\n' >"$room/--chek"
+runs sh -c 'cd "$room" && "$0" ./--chek' "$tdd"
+told "a script whose name begins with a dash" 0 ""
+printed "a script whose name begins with a dash" ok
 
-status=0
-./tdd nowhere.txt lessons $first.txt >"$room/found" 2>"$room/said" || status=$?
+runs ./tdd nowhere.txt lessons $first.txt
 told "a run with a script that is not there and a folder" 1 "tdd: cannot open nowhere.txt: No such file or directory
 tdd: cannot read lessons: Is a directory"
 {
@@ -81,19 +201,342 @@ same "the script after two that cannot be read" "$room/found" "$room/due"
     cat $first.out
 } >"$room/due"
 same "an error in its place between the answers" "$room/found" "$room/due"
-status=0
-./tdd <&- 2>"$room/said" || status=$?
-told "a run without standard input" 1 "tdd: cannot read standard input: it is closed"
-status=0
-./tdd $first.txt >&- 2>"$room/said" || status=$?
+closed="tdd: cannot read standard input: it is closed"
+runs ./tdd <&-
+told "a run without standard input" 1 "$closed"
+runs ./tdd $first.txt - <&-
+told "a run of - without standard input" 1 "$closed"
+runs ./tdd $first.txt <&-
+told "a run that needs no standard input" 0 ""
+same "a run that needs no standard input" "$room/found" $first.out
+runs sh -c './tdd "$0" >&-' $first.txt
 told "a run without standard output" 1 "tdd: cannot write to standard output: it is closed"
-status=0
-./tdd $first.txt $first.txt >/dev/full 2>"$room/said" || status=$?
-told "a run whose answers cannot be written" 1 "tdd: cannot write the answers: No space left on device"
-status=0
-printf 'start\n' | ./tdd >/dev/full 2>"$room/said" || status=$?
-told "a run from standard input whose answers cannot be written" 1 "tdd: cannot write the answers: No space left on device"
+runs sh -c './tdd "$0" 2>&-' $first.txt
+same "a run without standard error" "$room/found" $first.out
+full="tdd: cannot write the answers: No space left on device"
+runs sh -c './tdd "$0" "$0" >/dev/full' $first.txt
+told "a run whose answers cannot be written" 1 "$full"
+runs sh -c 'echo start | ./tdd >/dev/full'
+told "a run from standard input whose answers cannot be written" 1 "$full"
 echo "tdd: file, pipe, several scripts; what cannot be read or written is told"
+
+# checked WHAT STATUS WORDS TEXT: what --check tells of a script with this text (a format of printf), after its name
+checked() {
+    printf "$4" >"$room/lesson.txt"
+    runs sh -c 'cd "$room" && "$0" --check lesson.txt' "$tdd"
+    case $2 in
+    0)
+        told "the check of $1" 0 ""
+        printed "the check of $1" "lesson.txt$3"
+        ;;
+    *)
+        told "the check of $1" "$2" "tdd: lesson.txt$3"
+        [ ! -s "$room/found" ] || fail "the check of $1 prints '$(cat "$room/found")'"
+        ;;
+    esac
+}
+checked "an empty script" 0 ": 0 answers, all as quoted" ''
+checked "one call" 0 ": 1 answer, all as quoted" 'start # -> ok'
+checked "quotes beside the calls and below, and of empty lines" 0 ": 5 answers, all as quoted" \
+    'start\ndraw 1 # -> ok\n# -> ok 1\nshow 0 0 # ->\nshow 0 0 # -> \nshow 0 0\n#\t# ->\t \n'
+checked "line ends with carriage returns, the last without a line feed" 0 ": 4 answers, all as quoted" \
+    'start # -> ok\r\ndraw 1 # -> ok 1 \t\r\nshow 0 0 # ->\r\nshow 0 0\r\n# -> \r'
+checked "bytes that are no text" 0 ": 1 answer, all as quoted" \
+    "\\000\\377 # \\000\\377 # -> line 1: '??' is no call; right is: one of those that help lists\n"
+checked "lines of 65,536 bytes and of more" 0 ": 2 answers, all as quoted" \
+    'start%65524s# -> ok\nstart%65525s# -> line 2: the line has more than 65536 bytes; right is: at most 65536\n#%65535s\n'
+checked "a quote that is cut short" 1 " line 4: quoted '12,0', answered '12,0 -12,0 0,-12 0,12'" \
+    'record 12 0 -12 0 0 -12 0 12 # -> ok\nshow 0 4\n\n# -> 12,0\n'
+checked "answers without a quote" 1 ": quotes 1 answer and has 3; the first without a quote is 'ok 1'" 'start # -> ok\ndraw 1\nerase\n'
+checked "an arrow with no blank behind it, which is no quote" 1 ": quotes 0 answers and has 1; the first without a quote is 'ok'" 'start # ->ok\n'
+checked "a quote too many" 1 " line 3: quoted 'ok', but there is only 1 answer" 'start # -> ok\n\n# -> ok\n# -> ok\n'
+checked "quotes too many" 1 " line 3: quoted '', but there are only 2 answers" 'start # -> ok\ndraw 1 # -> ok 1\n# ->\n'
+checked "quotes alone" 1 " line 1: quoted 'ok', but there are only 0 answers" '# -> ok'
+checked "a second arrow in a line" 1 " line 1: quoted 'ok # -> ok', answered 'ok'" 'start # -> ok # -> ok\n'
+checked "a blank before the answer" 1 " line 1: quoted ' ok', answered 'ok'" 'start # ->  ok\n'
+checked "another text for the same number" 1 " line 1: quoted '1.0', answered '1'" 'element 4 1 0 # -> 1.0\n'
+checked "signs that mean something elsewhere" 1 " line 1: quoted '\\n%s&*\$(ls)\"', answered 'ok'" 'start # -> \\n%%s&*$(ls)"\n'
+checked "a quote with bytes that are no text" 1 " line 1: quoted 'o??k$(printf '\377')', answered 'ok'" 'start # -> o\000\033k\377\n'
+x20=xxxxxxxxxxxxxxxxxxxx
+checked "a quote of 60 characters" 1 " line 1: quoted '$x20$x20$x20', answered 'ok'" "start # -> $x20$x20$x20\n"
+checked "a quote of 61 characters" 1 " line 1: quoted '$x20$x20$x20...', answered 'ok'" "start # -> $x20$x20${x20}x\n"
+chips=$(printf '1,2 %.0s' 1 2 3 4 5 6 7 8 9 10)
+shown="record$(printf ' 1 2%.0s' $(seq 40)) # -> ok\nshow 0 40\n# -> "
+checked "a difference far into texts that are not long" 1 " line 3: quoted '${chips}9', answered '${chips}1,2'" \
+    "${shown%show*}show 0 11\n# -> ${chips}9\n"
+checked "a difference within long texts" 1 \
+    " line 3: quoted '...1,2 1,2 1,2 1,2 1,2 9,2 ${chips%1,2 }...', answered '...1,2 1,2 1,2 1,2 1,2 $chips...'" \
+    "$shown${chips}9,2 $chips$chips\n"
+checked "a long quote that lacks the end" 1 \
+    " line 3: quoted '... 1,2 1,2 1,2 1,2 1,2', answered '... 1,2 1,2 1,2 1,2 1,2 ${chips% }'" "$shown$chips$chips$chips\n"
+
+# tries WHAT STATUS PRINTED SAID SCRIPT...: --check of these
+tries() {
+    what="the check of $1" due=$2 lines=$3 words=$4
+    shift 4
+    runs ./tdd --check "$@"
+    told "$what" "$due" "$words"
+    printf '%s' "$lines" >"$room/due"
+    same "what is printed by $what" "$room/found" "$room/due"
+}
+for name in 'a b.txt' -x 'x=1' 'b\n%s&'; do
+    printf 'start # -> ok\n' >"$room/$name"
+    tries "a script named $name" 0 "$room/$name: 1 answer, all as quoted
+" "" "$room/$name"
+done
+good="$first.txt: $(wc -l <$first.out) answers, all as quoted
+"
+printf 'start # -> ok 1\n' >"$room/wrong.txt"
+tries "scripts good and bad, each from a fresh bench" 1 "$good$good" "tdd: cannot open nowhere.txt: No such file or directory
+tdd: $room/wrong.txt line 1: quoted 'ok 1', answered 'ok'
+tdd: cannot read lessons: Is a directory" $first.txt nowhere.txt "$room/wrong.txt" lessons $first.txt
+tries "- among others" 1 "$good" "tdd: - line 1: quoted 'ok 1', answered 'ok'" - $first.txt <"$room/wrong.txt"
+tries "/dev/stdin, which can be read only once" 0 "/dev/stdin: 1 answer, all as quoted
+" "" /dev/stdin <<END
+start # -> ok
+END
+tries "- without standard input" 1 "" "$closed" - $first.txt <&-
+tries "a script without standard input" 0 "$good" "" $first.txt <&-
+runs sh -c './tdd --check "$0" >&-' $first.txt
+told "--check without standard output" 1 "tdd: cannot write to standard output: it is closed"
+runs sh -c './tdd --check "$0" >/dev/full' $first.txt
+told "--check that cannot be written" 1 "tdd: cannot write to standard output"
+for script in $first.txt:0 "$room/wrong.txt:1"; do
+    runs sh -c './tdd --check "$0" 2>&-' "${script%:*}"
+    [ "$status" = "${script##*:}" ] || fail "--check of ${script%:*} without standard error ends with status $status"
+done
+runs env TMPDIR="$room/nowhere" ./tdd --check $first.txt
+[ "$status $(tail -n 1 "$room/said")" = "1 tdd: cannot make a temporary folder in $room/nowhere" ] ||
+    fail "--check does not tell that TMPDIR is not there, but ends with status $status and '$(cat "$room/said")'"
+
+# clean WHAT: nothing of the command's own is left
+clean() { [ -z "$(ls "$TMPDIR")" ] || fail "$1 leaves files in TMPDIR: $(ls -R "$TMPDIR")"; }
+clean "--check"
+# gone WHAT COMMAND...: ends with 141, and tells nothing, where nobody reads what it prints
+gone() {
+    what="$1 that nobody reads"
+    shift
+    {
+        status=0
+        env --default-signal=PIPE "$@" 2>"$room/said" || status=$?
+        echo $status >"$room/status"
+    } | :
+    status=$(cat "$room/status")
+    told "$what" 141 ""
+    clean "$what"
+}
+gone "--check" ./tdd --check $(for i in $(seq 20); do echo $first.txt; done)
+gone "a run" ./tdd $(for i in $(seq 100); do echo $first.txt; done)
+# A signal comes while standard input is read, which never ends; timeout sends it on to all that ./tdd has started.
+mkfifo "$room/never"
+exec 5<>"$room/never"
+for signal in HUP:129 INT:130 TERM:143; do
+    timeout 20 ./tdd --check - <&5 2>"$room/said" &
+    for i in $(seq 100); do [ -z "$(find "$TMPDIR" -name script)" ] && sleep 0.1 || break; done
+    [ -n "$(find "$TMPDIR" -name script)" ] || fail "--check does not read standard input into a file in TMPDIR"
+    kill -s ${signal%:*} $!
+    status=0
+    wait $! || status=$?
+    [ $status = ${signal#*:} ] || fail "--check that is sent ${signal%:*} ends with status $status"
+    clean "--check that is sent ${signal%:*}"
+done
+exec 5<&-
+echo "tdd: --check tells what differs and where, and leaves nothing behind"
+
+# answers WHAT: the script on standard input is answered as it quotes, in lines of at most 80 columns
+answers() {
+    cat >"$room/script"
+    runs ./tdd --check - <"$room/script"
+    told "the script of $1" 0 ""
+    printed "the script of $1" "-: $(grep -c '# ->' "$room/script") answers, all as quoted"
+    sed -n 's/.*# -> //p' "$room/script" >"$room/quoted"
+    narrow "what is answered to $1" "$room/quoted"
+}
+answers "refusals" <<'END'
+set-cell 128 1                 # -> refused 1: the cell parameter is above 127, or the code group above 31
+set-cell 8 4                   # -> refused 2: the burst type is not 1, 2 or 3
+open 3 0 1                     # -> refused 3: the spreading factor is not 1, 2, 4, 8 or 16
+open 4 4 1                     # -> refused 4: the code's index is not below its spreading factor
+open 4 1 4096                  # -> refused 5: a gain is not 1 to 4095
+open 4 1 3                     # -> ok
+open 8 2 1                     # -> refused 6: the code is related to an open code
+load-plan 4,0,3 4,1,3 4,0,5    # -> refused 6 place 2: the code is related to an open code
+load-plan 5,0,1                # -> refused 3 place 0: the spreading factor is not 1, 2, 4, 8 or 16
+close 4 2                      # -> refused 7: the code is not open
+load-bits 4 1 01               # -> refused 8: the count of bits is not 2(F1+F2)/Q, of field lengths F1 and F2
+load-bits 4 1 012*             # -> refused 9: a bit is neither 0 nor 1
+draw 1                         # -> refused 11: no slot is under way
+start                          # -> ok
+start                          # -> refused 10: a slot is under way
+draw 1 2                       # -> refused 12: the re and the im buffer differ in length
+set-sync 3 1 0 1 1             # -> refused 14: the case is not 1 or 2
+set-sync 1 1 1 1 1             # -> refused 15: the frame is not 1 or 2, the half is above 1, or it is 1 in case 1
+set-cell 8 2                   # -> ok
+set-sync 1 1 0 1 1             # -> refused 13: the burst type is not 1
+silence 256                    # -> ok
+read 8 4 1 0 20                # -> refused 16: the count is no multiple of 16 from 16 to 1104
+read-sync 1 0 255              # -> refused 16: the count is not 256
+find 0 255                     # -> refused 16: the count is not 256 to 5120
+element 4 1 4                  # -> refused 16: the chip is past the code's end
+scrambling-chip 8 16           # -> refused 16: the chip is past the code's end
+primary-chip 256               # -> refused 16: the chip is past the code's end
+secondary-chip 2 0             # -> refused 16: no such sync code, or the chip is past its end
+secondary 2                    # -> refused 16: no such sync code; there are 0, 1, 3 to 6, 8, 10, 12 to 15
+read-sync 1 0 256              # -> refused 19: no group, frame and half fits the burst better than all others
+record 100001,0                # -> ok
+silence 15                     # -> ok
+read 8 4 1 256 16              # -> refused 17: a component is outside -100000 to 100000
+brief                          # -> ok
+start                          # -> refused 10
+load-plan 4,0,3 4,0,5          # -> refused 6 place 1
+full                           # -> ok
+start                          # -> refused 10: a slot is under way
+END
+answers "settings" <<'END'
+settings            # -> cell 0 group 0 type 1
+                    # -> no code is open
+                    # -> no sync
+                    # -> no slot under way
+set-cell 8 1        # -> ok
+open 16 3 5         # -> ok
+open 4 2 4095       # -> ok
+open 4 1 3          # -> ok
+set-sync 2 1 0 9 7  # -> ok
+start               # -> ok
+draw 100            # -> ok 100
+settings            # -> cell 8 group 2 type 1
+                    # -> code (4, 1) gain 3
+                    # -> code (4, 2) gain 4095
+                    # -> code (16, 3) gain 5
+                    # -> sync case 2 frame 1 half 0 gains 9 7
+                    # -> slot under way, 2460 of 2560 chips left
+set-cell 127 3      # -> ok
+settings            # -> cell 127 group 31 type 3
+                    # -> no code is open
+                    # -> no sync
+                    # -> slot under way, 2460 of 2560 chips left
+draw 2460           # -> ok 2460
+settings            # -> cell 127 group 31 type 3
+                    # -> no code is open
+                    # -> no sync
+                    # -> no slot under way
+END
+# A code of factor 16 has 244 bits. Field 1 begins with chip 0, and field 2 ends before chip 2,464; 64 chips of it are 8 bits.
+answers "the forms of load-bits" <<'END'
+set-cell 8 1                 # -> ok
+load-plan 16,1,1 16,2,1 16,3,1 16,4,1 # -> ok
+load-bits 16 1 0110..        # -> ok
+load-bits 16 2 01101*        # -> ok
+load-bits 16 3 random 1      # -> ok
+load-bits 16 4 random 131073 # -> ok
+load-bits 16 3 random        # -> line 7: a word is missing; right is: load-bits Q K [BITS|random SEED]
+load-bits 16 3 *             # -> line 8: '*' is no word of digits; right is: load-bits Q K [BITS|random SEED]
+start                        # -> ok
+draw 2560                    # -> ok 2560
+read 8 16 1 0 64             # -> ok 4
+                             # -> 16,0 -16,0 0,16 0,16
+harden                       # -> ok 8
+                             # -> 01100000
+read 8 16 1 2400 64          # -> ok 4
+                             # -> 0,16 0,16 0,16 0,16
+harden                       # -> ok 8
+                             # -> 00000000
+read 8 16 2 0 64             # -> ok 4
+                             # -> 16,0 -16,0 -16,0 0,-16
+harden                       # -> ok 8
+                             # -> 01101011
+read 8 16 2 2400 64          # -> ok 4
+                             # -> 0,-16 16,0 16,0 -16,0
+harden                       # -> ok 8
+                             # -> 11010110
+read 8 16 3 0 64             # -> ok 4
+                             # -> 0,16 16,0 0,16 0,16
+harden                       # -> ok 8
+                             # -> 00010000
+read 8 16 3 2400 64          # -> ok 4
+                             # -> 16,0 0,16 0,-16 0,16
+harden                       # -> ok 8
+                             # -> 01001100
+read 8 16 4 2400 64          # -> ok 4
+                             # -> 16,0 0,16 0,-16 0,16
+END
+answers "chips in one word" <<'END'
+record 3,4               # -> ok
+record 3 4 5,-6          # -> ok
+record -7,0 8 9          # -> ok
+show 0 5                 # -> 3,4 3,4 5,-6 -7,0 8,9
+record 3,                # -> line 5: '3,' is no chip of two numbers; right is: record RE IM [RE IM]...
+record 3 4 5,6,7         # -> line 6: '5,6,7' is no chip of two numbers; right is: record RE IM [RE IM]...
+record 3,4 5             # -> line 7: a word is missing; right is: record RE IM [RE IM]...
+END
+printf 'record 3 4,5\n' >"$room/script"
+runs ./tdd "$room/script"
+told "a chip in one word that stands where an im is due" 0 ""
+printed "a chip in one word that stands where an im is due" \
+    "line 1: '4,5' is no number from -2147483648 to 2147483647; right is: record RE IM [RE IM]..."
+answers "misspelt calls" <<'END'
+Start                    # -> line 1: 'Start' is no call; nearest is: start
+strat                    # -> line 2: 'strat' is no call; nearest is: start
+set_cell 8 1             # -> line 3: 'set_cell' is no call; nearest is: set-cell P T
+OPEN 4 1 3               # -> line 4: 'OPEN' is no call; nearest is: open Q K G
+loadplan 4,1,3           # -> line 5: 'loadplan' is no call; nearest is: load-plan [Q,K,G]...
+reads 8 4 1 0 16         # -> line 6: 'reads' is no call; nearest is: read P Q K FROM COUNT
+cose 4 1                 # -> line 7: 'cose' is no call; nearest is: close Q K
+hepl                     # -> line 8: 'hepl' is no call; nearest is: help
+begin                    # -> line 9: 'begin' is no call; right is: one of those that help lists
+load plan 4,1,3          # -> line 10: 'load' is no call; right is: one of those that help lists
+start                    # -> ok
+END
+answers "lines that are no call" <<'END'
+open 4 1                 # -> line 1: a word is missing; right is: open Q K G
+start now                # -> line 2: 'now' is a word too many; right is: start
+draw all                 # -> line 3: 'all' is no number from 0 to 4294967295; right is: draw N [M]
+load-plan 4,1            # -> line 4: '4,1' is no record of three numbers; right is: load-plan [Q,K,G]...
+show 0 16                # -> line 5: the recording ends before that; right is: FROM + COUNT at most 0
+harden                   # -> line 6: there are no readings yet; right is: a read that is accepted
+silence 38401            # -> line 7: there is no room for 38401 more; right is: at most 38400, or erase first
+END
+# A byte order mark is passed over at the start of a script, and of each of several, but nowhere else.
+mark=$(printf '\357\273\277')
+answers "a byte order mark" <<END
+${mark}start             # -> ok
+${mark}start             # -> line 2: '???start' is no call; right is: one of those that help lists
+END
+printf '%sstart\n' "$mark" >"$room/marked.txt"
+runs ./tdd "$room/marked.txt" "$room/marked.txt"
+told "two scripts with a byte order mark" 0 ""
+printed "two scripts with a byte order mark" "==> $room/marked.txt <==
+ok
+==> $room/marked.txt <==
+ok"
+# What a new user does wrong: each is told what to do next.
+answers "a mistyped call, and a read of 20 chips" <<'END'
+opne 4 1 3               # -> line 1: 'opne' is no call; nearest is: open Q K G
+silence 20               # -> ok
+read 8 4 1 0 20          # -> refused 16: the count is no multiple of 16 from 16 to 1104
+END
+runs ./tdd lesson.txt
+told "a run of a file that is not there" 1 "tdd: cannot open lesson.txt: No such file or directory"
+echo "tdd: refusals, settings, forms of bits and chips, misspelt calls and other faults are answered in the manual's words"
+
+command -v script >/dev/null || fail "there is no script, of util-linux, by which a terminal is tried"
+# terminal WHAT COMMAND WORDS: what a command says on standard error at a terminal, where this function's input is typed
+terminal() {
+    SHELL=/bin/sh timeout 20 script -qec "{ $2; } 2>\"\$room/said\"" /dev/null >"$room/screen" || fail "$1, at a terminal, fails or does not end"
+    status=0
+    told "$1, at a terminal," 0 "$3"
+    tr -d '\r' <"$room/screen" | grep -qx ok || fail "$1, at a terminal, does not answer start with ok"
+}
+hint="tdd: type a call a line, help lists them; Ctrl-D ends"
+printf 'start\n\004' >"$room/typed"
+terminal "a run without a script" ./tdd "$hint" <"$room/typed"
+terminal "a run of -" './tdd -' "$hint" <"$room/typed"
+printf 'start\n' >"$room/script"
+terminal "a run from a pipe" 'cat "$room/script" | ./tdd' "" </dev/null
+terminal "a run from a file" './tdd - <"$room/script"' "" </dev/null
+terminal "a run of a script" './tdd "$room/script"' "" </dev/null
+[ ${#hint} -le 80 ] || fail "what is said at a terminal has more than 80 columns"
+echo "tdd: at a terminal it says what to type, and elsewhere it does not"
 
 # Each line is sent once the line before it is answered; a program that kept an answer back would wait forever.
 mkfifo "$room/lines" "$room/answers"
@@ -106,7 +549,7 @@ for word in start start draw; do
 done >"$room/found"
 exec 3>&- 4<&-
 wait
-printf '%s\n' 'ok' 'refused 10' 'line 3: a word is missing; right is: draw N [M]' >"$room/due"
+printf '%s\n' 'ok' 'refused 10: a slot is under way' 'line 3: a word is missing; right is: draw N [M]' >"$room/due"
 same "the answers one by one" "$room/found" "$room/due"
 echo "tdd: each line is answered before the next one comes"
 
@@ -122,4 +565,10 @@ timeout 30 ./tdd "$room/script" >"$room/found" || fail "10,000 calls take more t
 took=$(($(date +%s) - began))
 [ "$(grep -c '^ok group 2 frame 1 half 0$' "$room/found")" = 500 ] || fail "of 500 bursts not all are named"
 [ "$(grep -c '^refused' "$room/found")" = 1500 ] || fail "of 10,000 calls not 1,500 are refused"
-echo "tdd: 10,000 calls in $took s"
+sed 's/^/# -> /' "$room/found" >>"$room/script"
+began=$(date +%s)
+runs timeout 30 ./tdd --check "$room/script"
+checking=$(($(date +%s) - began))
+told "the check of 10,000 calls, of 30 seconds at most," 0 ""
+printed "the check of 10,000 calls" "$room/script: 11500 answers, all as quoted"
+echo "tdd: 10,000 calls in $took s, checked in $checking s"

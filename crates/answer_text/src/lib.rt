@@ -4,7 +4,7 @@ use script::memory::Memory;
 use sentences::Context;
 use sentences::filled;
 use sentences::refusals;
-use sentences::sentences_of;
+use sentences::sentence;
 use text::answers;
 use text::answers::Answers;
 use text::words;
@@ -35,7 +35,7 @@ pub fn print(
                 let r = c.recording;
                 lists::print(out, n, list, m, r.brief)
             } else {
-                let s = sentences_of::of_answer(a);
+                let s = sentence::of_answer(a);
                 let form = c.form;
                 filled::print(out, n, s, c, words::part(forms, form.from, form.to), line)
             };

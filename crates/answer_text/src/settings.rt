@@ -4,14 +4,14 @@ use script::memory::LINE;
 use script::memory::Memory;
 use sentences::Context;
 use sentences::filled;
-use sentences::sentences_of;
-use sentences::sentences_of::CELL;
-use sentences::sentences_of::CODE;
-use sentences::sentences_of::NO_CODE;
-use sentences::sentences_of::NO_SLOT;
-use sentences::sentences_of::NO_SYNC;
-use sentences::sentences_of::SYNC;
-use sentences::sentences_of::UNDER_WAY;
+use sentences::sentence;
+use sentences::sentence::CELL;
+use sentences::sentence::CODE;
+use sentences::sentence::NO_CODE;
+use sentences::sentence::NO_SLOT;
+use sentences::sentence::NO_SYNC;
+use sentences::sentence::SYNC;
+use sentences::sentence::UNDER_WAY;
 use text::answers;
 use text::answers::Answers;
 use text::complement;
@@ -62,7 +62,7 @@ fn line(out: &mut Answers, n: usize, row: usize, at: usize, c: Context, m: &Memo
         number(m, at, 3),
         number(m, at, 4),
     ];
-    let k = filled::print(out, n, sentences_of::with(row, x), c, b"", b"");
+    let k = filled::print(out, n, sentence::with(row, x), c, b"", b"");
     answers::byte(out, k, b'\n')
 }
 

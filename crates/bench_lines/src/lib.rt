@@ -21,7 +21,7 @@ pub struct Left {
     pub answer: LineAnswer,
 }
 
-// The call with this row and these numbers, or what is wrong with them. Rows past DRAW leave the bench alone, and so does row 0, that of a line with no word.
+// The call with this row and these numbers, or what is wrong with them.
 pub fn call(row: usize, numbers: Numbers, line: &[u8], s: State, m: &mut Memory) -> Left {
     let fault = numbers.fault;
     let x = numbers.x;
@@ -30,30 +30,43 @@ pub fn call(row: usize, numbers: Numbers, line: &[u8], s: State, m: &mut Memory)
             if row == DRAW {
                 return drawing::draw(s, x[0], x[1], m);
             }
-            let old = s.bench;
-            let r = s.recording;
             if 0 < row && row < DRAW {
-                let b = setting_lines::call(row, x, line, numbers.rest, old, m);
-                let bench = b.bench;
-                let answer = b.answer;
-                let state = State {
-                    bench,
-                    recording: r,
-                };
-                return Left { state, answer };
+                return of_settings(row, x, line, numbers.rest, s, m);
             }
-            let c = recording_lines::call(row, x, line, r, m);
-            let recording = c.recording;
-            let answer = c.answer;
-            let state = State {
-                bench: old,
-                recording,
-            };
-            Left { state, answer }
+            beside_the_bench(row, x, line, s, m)
         }
         _ => Left {
             state: s,
             answer: LineAnswer::Wrong(fault),
         },
     }
+}
+
+// A call that changes or tells settings, or starts a slot; what follows its numbers in the line begins at `rest`.
+fn of_settings(
+    row: usize,
+    x: [u32; 5],
+    line: &[u8],
+    rest: usize,
+    s: State,
+    m: &mut Memory,
+) -> Left {
+    let old = s.bench;
+    let left = setting_lines::call(row, x, line, rest, old, m);
+    let bench = left.bench;
+    let answer = left.answer;
+    let recording = s.recording;
+    let state = State { bench, recording };
+    Left { state, answer }
+}
+
+// A call that leaves the bench alone: those of rows past DRAW, and row 0, that of a line with no word.
+fn beside_the_bench(row: usize, x: [u32; 5], line: &[u8], s: State, m: &mut Memory) -> Left {
+    let old = s.recording;
+    let left = recording_lines::call(row, x, line, old, m);
+    let recording = left.recording;
+    let answer = left.answer;
+    let bench = s.bench;
+    let state = State { bench, recording };
+    Left { state, answer }
 }

@@ -1,7 +1,7 @@
 // The sentences, and how one is filled with numbers and words.
 use crate::Context;
 use crate::refusals;
-use crate::sentences_of::Sentence;
+use crate::sentence::Sentence;
 use script::forms;
 use script::memory::CHIPS;
 use text::answers;
@@ -11,7 +11,7 @@ use text::words;
 
 // Writes the sentence s. In a row # is its next number, ~ its next number with the sign, * its next number as a sync code with its unit, ! the number of the line,
 // & how many chips the recording has and ^ how many more it takes, ' the word of the line that is wrong, @ the form of its call, % the words of the refusal whose number
-// comes first. The numbers of the rows are in sentences_of.rt.
+// comes first. The numbers of the rows are in sentence.rt.
 pub fn print(
     out: &mut Answers,
     n: usize,

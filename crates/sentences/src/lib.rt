@@ -4,7 +4,7 @@ use script::forms::Form;
 
 pub mod filled;
 pub mod refusals;
-pub mod sentences_of;
+pub mod sentence;
 
 // Where an answer is due: the line's number in the script, its form, and the recording that it found.
 pub struct Context {
