@@ -343,165 +343,24 @@ done
 exec 5<&-
 echo "tdd: --check tells what differs and where, and leaves nothing behind"
 
-# answers WHAT: the script on standard input is answered as it quotes, in lines of at most 80 columns
-answers() {
-    cat >"$room/script"
-    runs ./tdd --check - <"$room/script"
-    told "the script of $1" 0 ""
-    printed "the script of $1" "-: $(grep -c '# ->' "$room/script") answers, all as quoted"
-    sed -n 's/.*# -> //p' "$room/script" >"$room/quoted"
-    narrow "what is answered to $1" "$room/quoted"
+# answered SCRIPT: it is answered as it quotes, in lines of at most 80 columns
+answered() {
+    runs ./tdd --check "$1"
+    told "the check of $1" 0 ""
+    printed "the check of $1" "$1: $(grep -c '# ->' "$1") answers, all as quoted"
+    sed -n 's/.*# -> //p' "$1" >"$room/quoted"
+    narrow "what $1 quotes" "$room/quoted"
 }
-answers "refusals" <<'END'
-set-cell 128 1                 # -> refused 1: the cell parameter is above 127, or the code group above 31
-set-cell 8 4                   # -> refused 2: the burst type is not 1, 2 or 3
-open 3 0 1                     # -> refused 3: the spreading factor is not 1, 2, 4, 8 or 16
-open 4 4 1                     # -> refused 4: the code's index is not below its spreading factor
-open 4 1 4096                  # -> refused 5: a gain is not 1 to 4095
-open 4 1 3                     # -> ok
-open 8 2 1                     # -> refused 6: the code is related to an open code
-load-plan 4,0,3 4,1,3 4,0,5    # -> refused 6 place 2: the code is related to an open code
-load-plan 5,0,1                # -> refused 3 place 0: the spreading factor is not 1, 2, 4, 8 or 16
-close 4 2                      # -> refused 7: the code is not open
-load-bits 4 1 01               # -> refused 8: the count of bits is not 2(F1+F2)/Q, of field lengths F1 and F2
-load-bits 4 1 012*             # -> refused 9: a bit is neither 0 nor 1
-draw 1                         # -> refused 11: no slot is under way
-start                          # -> ok
-start                          # -> refused 10: a slot is under way
-draw 1 2                       # -> refused 12: the re and the im buffer differ in length
-set-sync 3 1 0 1 1             # -> refused 14: the case is not 1 or 2
-set-sync 1 1 1 1 1             # -> refused 15: the frame is not 1 or 2, the half is above 1, or it is 1 in case 1
-set-cell 8 2                   # -> ok
-set-sync 1 1 0 1 1             # -> refused 13: the burst type is not 1
-silence 256                    # -> ok
-read 8 4 1 0 20                # -> refused 16: the count is no multiple of 16 from 16 to 1104
-read-sync 1 0 255              # -> refused 16: the count is not 256
-find 0 255                     # -> refused 16: the count is not 256 to 5120
-element 4 1 4                  # -> refused 16: the chip is past the code's end
-scrambling-chip 8 16           # -> refused 16: the chip is past the code's end
-primary-chip 256               # -> refused 16: the chip is past the code's end
-secondary-chip 2 0             # -> refused 16: no such sync code, or the chip is past its end
-secondary 2                    # -> refused 16: no such sync code; there are 0, 1, 3 to 6, 8, 10, 12 to 15
-read-sync 1 0 256              # -> refused 19: no group, frame and half fits the burst better than all others
-record 100001,0                # -> ok
-silence 15                     # -> ok
-read 8 4 1 256 16              # -> refused 17: a component is outside -100000 to 100000
-brief                          # -> ok
-start                          # -> refused 10
-load-plan 4,0,3 4,0,5          # -> refused 6 place 1
-full                           # -> ok
-start                          # -> refused 10: a slot is under way
-END
-answers "settings" <<'END'
-settings            # -> cell 0 group 0 type 1
-                    # -> no code is open
-                    # -> no sync
-                    # -> no slot under way
-set-cell 8 1        # -> ok
-open 16 3 5         # -> ok
-open 4 2 4095       # -> ok
-open 4 1 3          # -> ok
-set-sync 2 1 0 9 7  # -> ok
-start               # -> ok
-draw 100            # -> ok 100
-settings            # -> cell 8 group 2 type 1
-                    # -> code (4, 1) gain 3
-                    # -> code (4, 2) gain 4095
-                    # -> code (16, 3) gain 5
-                    # -> sync case 2 frame 1 half 0 gains 9 7
-                    # -> slot under way, 2460 of 2560 chips left
-set-cell 127 3      # -> ok
-settings            # -> cell 127 group 31 type 3
-                    # -> no code is open
-                    # -> no sync
-                    # -> slot under way, 2460 of 2560 chips left
-draw 2460           # -> ok 2460
-settings            # -> cell 127 group 31 type 3
-                    # -> no code is open
-                    # -> no sync
-                    # -> no slot under way
-END
-# A code of factor 16 has 244 bits. Field 1 begins with chip 0, and field 2 ends before chip 2,464; 64 chips of it are 8 bits.
-answers "the forms of load-bits" <<'END'
-set-cell 8 1                 # -> ok
-load-plan 16,1,1 16,2,1 16,3,1 16,4,1 # -> ok
-load-bits 16 1 0110..        # -> ok
-load-bits 16 2 01101*        # -> ok
-load-bits 16 3 random 1      # -> ok
-load-bits 16 4 random 131073 # -> ok
-load-bits 16 3 random        # -> line 7: a word is missing; right is: load-bits Q K [BITS|random SEED]
-load-bits 16 3 *             # -> line 8: '*' is no word of digits; right is: load-bits Q K [BITS|random SEED]
-start                        # -> ok
-draw 2560                    # -> ok 2560
-read 8 16 1 0 64             # -> ok 4
-                             # -> 16,0 -16,0 0,16 0,16
-harden                       # -> ok 8
-                             # -> 01100000
-read 8 16 1 2400 64          # -> ok 4
-                             # -> 0,16 0,16 0,16 0,16
-harden                       # -> ok 8
-                             # -> 00000000
-read 8 16 2 0 64             # -> ok 4
-                             # -> 16,0 -16,0 -16,0 0,-16
-harden                       # -> ok 8
-                             # -> 01101011
-read 8 16 2 2400 64          # -> ok 4
-                             # -> 0,-16 16,0 16,0 -16,0
-harden                       # -> ok 8
-                             # -> 11010110
-read 8 16 3 0 64             # -> ok 4
-                             # -> 0,16 16,0 0,16 0,16
-harden                       # -> ok 8
-                             # -> 00010000
-read 8 16 3 2400 64          # -> ok 4
-                             # -> 16,0 0,16 0,-16 0,16
-harden                       # -> ok 8
-                             # -> 01001100
-read 8 16 4 2400 64          # -> ok 4
-                             # -> 16,0 0,16 0,-16 0,16
-END
-answers "chips in one word" <<'END'
-record 3,4               # -> ok
-record 3 4 5,-6          # -> ok
-record -7,0 8 9          # -> ok
-show 0 5                 # -> 3,4 3,4 5,-6 -7,0 8,9
-record 3,                # -> line 5: '3,' is no chip of two numbers; right is: record RE IM [RE IM]...
-record 3 4 5,6,7         # -> line 6: '5,6,7' is no chip of two numbers; right is: record RE IM [RE IM]...
-record 3,4 5             # -> line 7: a word is missing; right is: record RE IM [RE IM]...
-END
+for script in tests/answers/*.txt; do answered "$script"; done
 printf 'record 3 4,5\n' >"$room/script"
 runs ./tdd "$room/script"
 told "a chip in one word that stands where an im is due" 0 ""
 printed "a chip in one word that stands where an im is due" \
     "line 1: '4,5' is no number from -2147483648 to 2147483647; right is: record RE IM [RE IM]..."
-answers "misspelt calls" <<'END'
-Start                    # -> line 1: 'Start' is no call; nearest is: start
-strat                    # -> line 2: 'strat' is no call; nearest is: start
-set_cell 8 1             # -> line 3: 'set_cell' is no call; nearest is: set-cell P T
-OPEN 4 1 3               # -> line 4: 'OPEN' is no call; nearest is: open Q K G
-loadplan 4,1,3           # -> line 5: 'loadplan' is no call; nearest is: load-plan [Q,K,G]...
-reads 8 4 1 0 16         # -> line 6: 'reads' is no call; nearest is: read P Q K FROM COUNT
-cose 4 1                 # -> line 7: 'cose' is no call; nearest is: close Q K
-hepl                     # -> line 8: 'hepl' is no call; nearest is: help
-begin                    # -> line 9: 'begin' is no call; right is: one of those that help lists
-load plan 4,1,3          # -> line 10: 'load' is no call; right is: one of those that help lists
-start                    # -> ok
-END
-answers "lines that are no call" <<'END'
-open 4 1                 # -> line 1: a word is missing; right is: open Q K G
-start now                # -> line 2: 'now' is a word too many; right is: start
-draw all                 # -> line 3: 'all' is no number from 0 to 4294967295; right is: draw N [M]
-load-plan 4,1            # -> line 4: '4,1' is no record of three numbers; right is: load-plan [Q,K,G]...
-show 0 16                # -> line 5: the recording ends before that; right is: FROM + COUNT at most 0
-harden                   # -> line 6: there are no readings yet; right is: a read that is accepted
-silence 38401            # -> line 7: there is no room for 38401 more; right is: at most 38400, or erase first
-END
 # A byte order mark is passed over at the start of a script, and of each of several, but nowhere else.
 mark=$(printf '\357\273\277')
-answers "a byte order mark" <<END
-${mark}start             # -> ok
-${mark}start             # -> line 2: '???start' is no call; right is: one of those that help lists
-END
+printf '%s\n' "${mark}start # -> ok" "${mark}start # -> line 2: '???start' is no call; right is: one of those that help lists" >"$room/marked.txt"
+answered "$room/marked.txt"
 printf '%sstart\n' "$mark" >"$room/marked.txt"
 runs ./tdd "$room/marked.txt" "$room/marked.txt"
 told "two scripts with a byte order mark" 0 ""
@@ -509,12 +368,6 @@ printed "two scripts with a byte order mark" "==> $room/marked.txt <==
 ok
 ==> $room/marked.txt <==
 ok"
-# What a new user does wrong: each is told what to do next.
-answers "a mistyped call, and a read of 20 chips" <<'END'
-opne 4 1 3               # -> line 1: 'opne' is no call; nearest is: open Q K G
-silence 20               # -> ok
-read 8 4 1 0 20          # -> refused 16: the count is no multiple of 16 from 16 to 1104
-END
 runs ./tdd lesson.txt
 told "a run of a file that is not there" 1 "tdd: cannot open lesson.txt: No such file or directory"
 echo "tdd: refusals, settings, forms of bits and chips, misspelt calls and other faults are answered in the manual's words"

@@ -5,5 +5,4 @@ pub mod faults;
 pub mod forms;
 pub mod memory;
 pub mod noise;
-pub mod plans;
 pub mod rows;

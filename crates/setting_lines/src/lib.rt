@@ -2,17 +2,14 @@
 use bench::Answered;
 use bench::Bench;
 use bench::CallAnswer;
-use bench::Channel;
 use bench::PlanAnswer;
-use bench::PlanRecords;
 use bench::Planned;
 use bits::Bits;
 use codes::CellParameter;
+use plans::Plan;
 use script::answer::LineAnswer;
 use script::faults::Fault;
 use script::memory::Memory;
-use script::plans;
-use script::plans::Plan;
 use script::rows::CLEAR_SYNC;
 use script::rows::CLOSE;
 use script::rows::LOAD_BITS;
@@ -26,6 +23,7 @@ use slot::parts;
 use text::words;
 
 mod bits;
+mod plans;
 mod told;
 
 // The call with this row and these numbers; what follows them in the line begins at `rest`.
@@ -38,7 +36,7 @@ pub fn call(
     m: &mut Memory,
 ) -> BenchLeft {
     match row {
-        LOAD_PLAN => load_plan(b, plans::records(line, rest)),
+        LOAD_PLAN => load_plan(b, plans::of_line(line, rest)),
         LOAD_BITS => load_bits(b, x[0], x[1], bits::of_line(line, rest)),
         SETTINGS => BenchLeft {
             bench: b,
@@ -110,33 +108,15 @@ fn bit_count(kind: u32, q: usize) -> usize {
     std::num::wrapping_add_usize(chips, chips) / q
 }
 
-// At most 16 codes can be open together, so the first 17 records decide.
 fn load_plan(b: Bench, plan: Plan) -> BenchLeft {
     let fault = plan.fault;
     match fault {
-        Fault::None => planned(b.load_records(records(plan), plan.count)),
+        Fault::None => {
+            let records = plan.records;
+            planned(b.load_records(records, plan.count))
+        }
         _ => no_call(b, fault),
     }
-}
-
-fn records(plan: Plan) -> PlanRecords {
-    let q = plan.q;
-    let k = plan.k;
-    let gain = plan.gain;
-    let none = Channel {
-        q: 0,
-        k: 0,
-        gain: 0,
-    };
-    let mut all = [none; 17];
-    for i in 0..17 {
-        all[i] = Channel {
-            q: q[i],
-            k: k[i],
-            gain: gain[i],
-        };
-    }
-    PlanRecords { records: all }
 }
 
 fn planned(r: Planned) -> BenchLeft {

@@ -3,9 +3,6 @@ use text::files;
 use text::files::Ending;
 use text::words;
 
-mod calls;
-mod scripts;
-
 // The forms of the calls, as `help` prints them; the numbers of their rows are in script/src/rows.rt.
 fn main() {
     program(

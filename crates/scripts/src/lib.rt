@@ -1,8 +1,7 @@
 // A script from its first line to its last.
-use crate::calls;
-use crate::calls::Now;
 use bench::Bench;
 use bench_lines::State;
+use calls::Now;
 use recording_lines::Recording;
 use script::memory;
 use script::memory::Memory;
@@ -14,6 +13,8 @@ use text::lines;
 use text::lines::Buffer;
 use text::lines::Refilled;
 use text::lines::Step;
+
+mod calls;
 
 // Answers each line of the input. A proved loop has to end, and nothing says that the input does, so the loop counts its turns
 // down, from a number that no run uses up.

@@ -1,7 +1,7 @@
 -- `run` is safe, and ends: its turns are counted down. Assumes nothing.
 use borrow.Author.Needs.{needs}
-use Rattle.tdd.proofs.scripts.run.Statement.{statement}
-use Rattle.tdd.proofs.scripts.run.Tie as tie
+use Rattle.scripts.proofs.run.Statement.{statement}
+use Rattle.scripts.proofs.run.Tie as tie
 
 pub run-spec : {M : Type 1} → statement M
 run-spec =

@@ -1,23 +1,26 @@
 // The records of a plan, one word each: Q,K,G.
-use crate::faults::Fault;
+use bench::Channel;
+use bench::PlanRecords;
+use script::faults::Fault;
 use text::numbers;
 use text::numbers::Natural;
 use text::words;
 
-// How many records there are, and the numbers of the first 17; or what is wrong.
+// How many records there are, and the first 17; or what is wrong. At most 16 codes can be open together, so the first 17 decide.
 pub struct Plan {
     pub fault: Fault,
     pub count: usize,
-    pub q: [u32; 17],
-    pub k: [u32; 17],
-    pub gain: [u32; 17],
+    pub records: PlanRecords,
 }
 
 // The records of a line at or after `at`.
-pub fn records(line: &[u8], at: usize) -> Plan {
-    let mut q = [0u32; 17];
-    let mut k = [0u32; 17];
-    let mut gain = [0u32; 17];
+pub fn of_line(line: &[u8], at: usize) -> Plan {
+    let none = Channel {
+        q: 0,
+        k: 0,
+        gain: 0,
+    };
+    let mut first = [none; 17];
     let mut fault = Fault::None;
     let mut from = at;
     let mut count: usize = 0;
@@ -27,11 +30,9 @@ pub fn records(line: &[u8], at: usize) -> Plan {
             break;
         }
         match to_record(words::part(line, w.from, w.to)) {
-            Record::Is(x, y, z) => {
+            Record::Is(c) => {
                 if count < 17 {
-                    q[count] = x;
-                    k[count] = y;
-                    gain[count] = z;
+                    first[count] = c;
                 }
             }
             Record::Bad => {
@@ -45,14 +46,12 @@ pub fn records(line: &[u8], at: usize) -> Plan {
     Plan {
         fault,
         count,
-        q,
-        k,
-        gain,
+        records: PlanRecords { records: first },
     }
 }
 
 enum Record {
-    Is(u32, u32, u32),
+    Is(Channel),
     Bad,
 }
 
@@ -68,7 +67,11 @@ fn to_record(w: &[u8]) -> Record {
             Natural::Bad => Record::Bad,
             Natural::Is(y) => match gain {
                 Natural::Bad => Record::Bad,
-                Natural::Is(z) => Record::Is(x, y, z),
+                Natural::Is(z) => Record::Is(Channel {
+                    q: x,
+                    k: y,
+                    gain: z,
+                }),
             },
         },
     }
