@@ -10,7 +10,7 @@ use Rattle.script.specs.declared.faults.Fault.the-variants.{Full}
 use Rattle.script.specs.Room.{fit}
 use Rattle.bench_lines.specs.declared.State.{State}
 
--- "puts the chips at the end of the recording"; where they do not fit, nothing changes, and the bench stays as it was before the draw
+-- "they go to the end of the recording"; where they do not fit, nothing changes, and the bench stays as it was before the draw
 abbrev pub kept : State → Bench → ℕ → State
 kept s b count =
     let r = s .recording in

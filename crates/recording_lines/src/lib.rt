@@ -21,7 +21,7 @@ mod appending;
 mod reading;
 mod sync;
 
-// What lines find and leave beside the bench: how many chips the recording has, how many readings the last accepted read gave, and whether long lines are told
+// What lines find and leave beside the bench: how many chips the recording has, how many readings the last accepted read gave, and whether long lines and refusals are told
 // in brief.
 pub struct Recording {
     pub chips: usize,

@@ -8,7 +8,7 @@ pub enum LineAnswer {
     // So many chips were put behind the recording's last one.
     Recorded(usize),
     Erased,
-    // Long lines in brief, or in full.
+    // Long lines and refusals in brief, or in full.
     Brief(bool),
     Counted(usize),
     Refused(u32),

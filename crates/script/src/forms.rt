@@ -16,7 +16,7 @@ pub fn named(forms: &[u8], name: &[u8]) -> Form {
     walked(forms, name, 0, 0)
 }
 
-// The row of the call whose name is nearest to this one: the same but for case, or else a letter off.
+// The row of the call whose name is nearest to this one: the same but for case, or else a character away.
 pub fn nearest(forms: &[u8], name: &[u8]) -> Form {
     let form = walked(forms, name, 0, 1);
     if form.row != 0 {

@@ -1,4 +1,4 @@
-// The rows of the forms in tdd/src/main.rt, from 1 on. The bench's calls come first, to DRAW, then those of the recording, to FIND, of the code rules, and of the program itself: by these ranges a line is handed on.
+// The rows of the forms in tdd/src/main.rt, from 1 on. The bench's calls and `settings` come first, to DRAW, then those of the recording, to FIND, of the code rules, and of the program itself: by these ranges a line is handed on.
 pub const SET_CELL: usize = 1;
 
 pub const OPEN: usize = 2;

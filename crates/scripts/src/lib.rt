@@ -58,7 +58,7 @@ fn fresh() -> Now {
     Now { state, n: 0 }
 }
 
-// Answers a script with buffers and a memory of its own; a run takes some 850 KB of the stack.
+// Answers a script with buffers and a memory of its own; a run takes some 750 KB of the stack.
 pub fn answer_all(fd: i32, forms: &[u8]) -> Ending {
     let mut buf = [0u8; lines::ROOM];
     let mut out = [0u8; answers::ROOM];

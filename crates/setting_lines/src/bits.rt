@@ -9,7 +9,7 @@ use text::words::Word;
 // A code has at most 4,416 bits; one more is too many for each.
 pub const ROOM: usize = 4417;
 
-// What follows the bits that are written, up to the code's count.
+// What follows the bits that are written, up to the code's count; or that the word is none of bits.
 const NOTHING: u32 = 0;
 
 const ZEROS: u32 = 1;

@@ -1,4 +1,4 @@
-// The lines that change settings or tell them, or start a slot: every call of the bench but draw.
+// The lines that change settings or start a slot, every call of the bench but draw, and the line that tells settings.
 use bench::Answered;
 use bench::Bench;
 use bench::CallAnswer;
@@ -98,7 +98,7 @@ fn load_bits(b: Bench, q: u32, k: u32, bits: Bits) -> BenchLeft {
     }
 }
 
-// How many bits a code of factor q has in a burst type; 0 where there is no such code.
+// How many bits a code of factor q has in a burst type. Where q is no factor it is some number: whatever the bits are, the load is refused 3.
 fn bit_count(kind: u32, q: usize) -> usize {
     if q == 0 {
         return 0;

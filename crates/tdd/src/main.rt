@@ -19,7 +19,7 @@ start                             # a slot of 2560 chips with these settings
 draw N [M]                        # records the next chips of it, at most N
 record RE IM [RE IM]...           # records chips of your own, also as RE,IM
 silence COUNT                     # records COUNT chips of 0
-noise FROM COUNT SEED SIZE        # adds -SIZE to SIZE to these chips
+noise FROM COUNT SEED SIZE        # adds noise, -SIZE to SIZE, to these chips
 erase                             # empties the recording
 show FROM COUNT                   # COUNT chips from FROM on; the first is 0
 read P Q K FROM COUNT             # what code (Q, K) reads in them in cell P
@@ -27,7 +27,7 @@ harden                            # the bits of what the last read gave
 read-sync CASE FROM COUNT         # what a sync burst of 256 chips was sent for
 find FROM COUNT                   # where the primary sync code is strongest
 element Q K CHIP                  # chip CHIP of code (Q, K); the first is 0
-related Q K Q K                   # whether one code lies above the other
+related Q K Q K                   # whether equal, or one above the other
 code-group P                      # the code group of cell parameter P
 scrambling-chip P CHIP            # chip CHIP of scrambling code P
 primary-chip CHIP                 # chip CHIP of the primary sync code
