@@ -247,8 +247,8 @@ checked "lines of 65,536 bytes and of more" 0 ": 2 answers, all as quoted" \
     'start%65524s# -> ok\nstart%65525s# -> line 2: the line has more than 65536 bytes; right is: at most 65536\n#%65535s\n'
 checked "a quote that is cut short" 1 " line 4: quoted '12,0', answered '12,0 -12,0 0,-12 0,12'" \
     'record 12 0 -12 0 0 -12 0 12 # -> ok\nshow 0 4\n\n# -> 12,0\n'
-checked "answers without a quote" 1 ": quotes 1 answer and has 3; the first without a quote is 'ok 1'" 'start # -> ok\ndraw 1\nerase\n'
-checked "an arrow with no blank behind it, which is no quote" 1 ": quotes 0 answers and has 1; the first without a quote is 'ok'" 'start # ->ok\n'
+checked "answers without a quote" 1 " after line 2: answered 'ok 1', which is not quoted; right is: a quote for each of 3 answers, not 1" '\nstart # -> ok\ndraw 1\nerase\n'
+checked "an arrow with no blank behind it, which is no quote" 1 ": answered 'ok', which is not quoted; right is: a quote for each of 1 answer, not 0" 'start # ->ok\n'
 checked "a quote too many" 1 " line 3: quoted 'ok', but there is only 1 answer" 'start # -> ok\n\n# -> ok\n# -> ok\n'
 checked "quotes too many" 1 " line 3: quoted '', but there are only 2 answers" 'start # -> ok\ndraw 1 # -> ok 1\n# ->\n'
 checked "quotes alone" 1 " line 1: quoted 'ok', but there are only 0 answers" '# -> ok'
