@@ -91,14 +91,13 @@ def load_bits_codes():
 def load_bits_counts(slot_type, q):
     """Refusals 8 and 9; the bits of the one good load stay."""
     k, count = q // 3, right_count(q, slot_type)
-    wrong = {0, 1, count - 1, count + 1} | {right_count(q, other) for other in FIELDS} - {count}
-    if q > 2:  # else the scripts would be mostly bits
-        wrong |= {count // 2, count - 2, count + 2, 2 * count}
+    wrong = {0, 1, count // 2, count - 2, count - 1, count + 1, count + 2, 2 * count}
+    wrong |= {right_count(q, other) for other in FIELDS} - {count}
     yield f"set-cell {7 * q} {slot_type}, open {q} {k} 30, load-bits {q} {k} {count} 1 {count}"
     for length in sorted(wrong):
-        yield f"load-bits {q} {k} {length} 2 {NONE_BAD}"
-    if q > 2:
-        yield f"load-bits {q} {k} {count - 1} 3 0, load-bits {q} {k} {count + 1} 3 {count}"
+        if length <= 5000:  # more is for other families
+            yield f"load-bits {q} {k} {length} 2 {NONE_BAD}"
+    yield f"load-bits {q} {k} {count - 1} 3 0, load-bits {q} {k} {count + 1} 3 {count}"
     for bad in (0, 1, count // 2):
         yield spelled(f"load-bits {q} {k} {bad + 1} 4 {bad}") + ".."
     yield f"load-bits {q} {k} {count} 4 {count - 1}"
