@@ -32,13 +32,10 @@ pub fn parsed(forms: &[u8], line: &[u8]) -> Line {
         };
     }
     let w = words::next(line, 0);
-    let name = words::part(line, w.from, w.to);
-    let form = forms::named(forms, name);
+    let form = forms::named(forms, words::part(line, w.from, w.to));
     let row = form.row;
-    if row == 0 {
-        return no_call(forms, name, w);
-    }
     let numbers = match row {
+        0 => none(unknown(w), w.to),
         RECORD => none(Fault::None, w.to),
         DRAW => lengths(line, w.to),
         _ => all(words::part(forms, form.from, form.to), line, w.to),
@@ -46,25 +43,11 @@ pub fn parsed(forms: &[u8], line: &[u8]) -> Line {
     Line { form, numbers }
 }
 
-// A line whose first word is no call, or that has none. Where a call is near, its form goes with it.
-fn no_call(forms: &[u8], name: &[u8], w: words::Word) -> Line {
-    if name.len() == 0 {
-        return Line {
-            form: forms::named(forms, b""),
-            numbers: none(Fault::None, w.to),
-        };
+fn unknown(w: words::Word) -> Fault {
+    if w.from == w.to {
+        return Fault::None;
     }
-    let mut form = forms::nearest(forms, name);
-    let fault = if form.row == 0 {
-        Fault::Unknown(w)
-    } else {
-        Fault::Near(w)
-    };
-    form.row = 0;
-    Line {
-        form,
-        numbers: none(fault, w.to),
-    }
+    Fault::Unknown(w)
 }
 
 fn none(fault: Fault, rest: usize) -> Numbers {

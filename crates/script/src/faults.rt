@@ -4,8 +4,6 @@ use text::words::Word;
 pub enum Fault {
     None,
     Unknown(Word),
-    // The same, where the line's form is that of a call near to it.
-    Near(Word),
     Missing,
     Extra(Word),
     NoNumber(Word),

@@ -1,7 +1,5 @@
 // The forms of the calls: a text with a row for each call, ended by a line end. A row has the call's name, its words and a comment; words in brackets may be left out.
 use text::lines;
-use text::spelling;
-use text::spelling::FAR;
 use text::words;
 
 // The row forms[from..to], number `row`, from 1 on. Row 0 is no row.
@@ -13,26 +11,17 @@ pub struct Form {
 
 // The row of the call with this name.
 pub fn named(forms: &[u8], name: &[u8]) -> Form {
-    walked(forms, name, 0, 0)
-}
-
-// The row of the call whose name is nearest to this one: the same but for case, or else a character away.
-pub fn nearest(forms: &[u8], name: &[u8]) -> Form {
-    let form = walked(forms, name, 0, 1);
-    if form.row != 0 {
-        return form;
-    }
-    walked(forms, name, 0, FAR)
+    walked(forms, name, 0)
 }
 
 // Row number `number` of a text with a row in each line.
 pub fn row(text: &[u8], number: usize) -> &[u8] {
-    let found = walked(text, b"", number, 0);
+    let found = walked(text, b"", number);
     words::part(text, found.from, found.to)
 }
 
-// The first row that has this number or begins with this word, or with one that is nearer to it than `slack`.
-fn walked(text: &[u8], name: &[u8], number: usize, slack: u32) -> Form {
+// The first row that has this number or begins with this word.
+fn walked(text: &[u8], name: &[u8], number: usize) -> Form {
     let mut at: usize = 0;
     let mut row: usize = 0;
     while at < text.len() {
@@ -44,7 +33,7 @@ fn walked(text: &[u8], name: &[u8], number: usize, slack: u32) -> Form {
             break;
         }
         row = std::num::wrapping_add_usize(row, 1);
-        if row == number || begins_with(words::part(text, at, to), name, slack) {
+        if row == number || begins_with(words::part(text, at, to), name) {
             return Form { row, from: at, to };
         }
         at = to + 1;
@@ -56,17 +45,13 @@ fn walked(text: &[u8], name: &[u8], number: usize, slack: u32) -> Form {
     }
 }
 
-// A row that is all comment begins with no word, and no name is that, nor near to it.
-fn begins_with(row: &[u8], name: &[u8], slack: u32) -> bool {
-    let w = words::next(row, 0);
-    if name.len() == 0 || w.from == w.to {
+// A row that is all comment begins with no word, and no name is that.
+fn begins_with(row: &[u8], name: &[u8]) -> bool {
+    if name.len() == 0 {
         return false;
     }
-    let first = words::part(row, w.from, w.to);
-    if slack == 0 {
-        return words::same(first, name);
-    }
-    spelling::distance(name, first) < slack
+    let w = words::next(row, 0);
+    words::same(words::part(row, w.from, w.to), name)
 }
 
 // How many words a form has after its name and before any in brackets, and whether there are some in brackets.

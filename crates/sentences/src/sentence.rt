@@ -29,9 +29,9 @@ const BURST: usize = 11;
 
 const PEAK: usize = 12;
 
-const UNKNOWN: usize = 13;
+pub const UNKNOWN: usize = 13;
 
-const NEAR: usize = 14;
+pub const NEAR: usize = 14;
 
 const MISSING: usize = 15;
 
@@ -134,7 +134,6 @@ pub fn of_answer(a: LineAnswer) -> Sentence {
 fn of_fault(fault: Fault) -> Sentence {
     match fault {
         Fault::Unknown(w) => quoting(UNKNOWN, w),
-        Fault::Near(w) => quoting(NEAR, w),
         Fault::Extra(w) => quoting(EXTRA, w),
         Fault::NoNumber(w) => quoting(NO_NUMBER, w),
         Fault::NoComponent(w) => quoting(NO_COMPONENT, w),

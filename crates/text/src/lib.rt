@@ -1,8 +1,7 @@
-// Text: lines that are read in pieces, words and how near they are to names, numbers, a buffer for what is written, files by name.
+// Text: lines that are read in pieces, words, numbers, a buffer for what is written, files by name.
 pub mod answers;
 pub mod complement;
 pub mod files;
 pub mod lines;
 pub mod numbers;
-pub mod spelling;
 pub mod words;

@@ -8,4 +8,4 @@ use Rattle.script.proofs.forms.walked.Tie as tie
 pub walked-spec : {M : Type 1} → statement M
 walked-spec =
     tie.close
-    (tie.spec (λ _ _ _ _ _ _ _ _. Unit {0}) (λ text _ _ _ _ _ at _. length text - at) (λ c. search needs) (λ c κs. search needs) (λ c κs. search needs) (λ c κs. search needs) (λ c κs. search needs) (λ c. search needs) (λ c. search needs) (λ c. search needs) (λ c. search needs) (λ c. search needs) (λ c. search needs) (λ c. search needs))
+    (tie.spec (λ _ _ _ _ _ _ _. Unit {0}) (λ text _ _ _ _ at _. length text - at) (λ c. search needs) (λ c κs. search needs) (λ c κs. search needs) (λ c κs. search needs) (λ c κs. search needs) (λ c. search needs) (λ c. search needs) (λ c. search needs) (λ c. search needs) (λ c. search needs) (λ c. search needs) (λ c. search needs))

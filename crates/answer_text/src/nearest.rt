@@ -1,8 +1,42 @@
-// How near a word is to a name.
-use crate::words;
+// The call that a word which is no call is near to.
+use text::lines;
+use text::words;
+use text::words::Word;
 
 // The distance of a word that is nowhere near.
-pub const FAR: u32 = 2;
+const FAR: u32 = 2;
+
+// The row of the call whose name is nearest to a word, the first of several; an empty part where none is near.
+pub fn row(forms: &[u8], word: &[u8]) -> Word {
+    let mut found = Word { from: 0, to: 0 };
+    let mut least = FAR;
+    let mut at: usize = 0;
+    while at < forms.len() {
+        let to = lines::line_end(forms, at, forms.len());
+        if to < at {
+            break;
+        }
+        if to >= forms.len() {
+            break;
+        }
+        let far = from_call(words::part(forms, at, to), word);
+        if far < least {
+            least = far;
+            found = Word { from: at, to };
+        }
+        at = to + 1;
+    }
+    found
+}
+
+// How far a word is from the name of a row's call. A row that is all comment has none.
+fn from_call(row: &[u8], word: &[u8]) -> u32 {
+    let w = words::next(row, 0);
+    if w.from == w.to {
+        return FAR;
+    }
+    distance(word, words::part(row, w.from, w.to))
+}
 
 // b, with A to Z as a to z.
 fn small(b: u8) -> u8 {
@@ -42,7 +76,7 @@ fn exchanged(a: &[u8], b: &[u8], i: usize, j: usize) -> bool {
 }
 
 // 0 where the word is the name but for case; 1 where one character put in, left out or changed, or two neighbours exchanged, make it that; else FAR.
-pub fn distance(word: &[u8], name: &[u8]) -> u32 {
+fn distance(word: &[u8], name: &[u8]) -> u32 {
     if alike(word, 0, name, 0) {
         return 0;
     }
