@@ -3,6 +3,7 @@ use script::answer::LineAnswer;
 use script::memory::Memory;
 use sentences::Context;
 use sentences::filled;
+use sentences::nearest;
 use sentences::refusals;
 use sentences::sentence;
 use sentences::sentence::NEAR;
@@ -13,7 +14,6 @@ use text::answers::Answers;
 use text::words;
 
 mod lists;
-mod nearest;
 mod settings;
 
 // Writes the answer of a line. The forms are for help and for what would be right, the memory has the values of long lines.

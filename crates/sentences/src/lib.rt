@@ -1,8 +1,9 @@
-// The answers that are one sentence, and the words of the refusals.
+// The answers that are one sentence, the words of the refusals, and the call that a word is near to.
 use recording_lines::Recording;
 use script::forms::Form;
 
 pub mod filled;
+pub mod nearest;
 pub mod refusals;
 pub mod sentence;
 

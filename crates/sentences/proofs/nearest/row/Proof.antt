@@ -2,8 +2,8 @@
 use Prim.Native.Nat.{_-_}
 use lib.ListN.{length}
 use borrow.Author.Needs.{needs}
-use Rattle.answer_text.proofs.nearest.row.Statement.{statement}
-use Rattle.answer_text.proofs.nearest.row.Tie as tie
+use Rattle.sentences.proofs.nearest.row.Statement.{statement}
+use Rattle.sentences.proofs.nearest.row.Tie as tie
 
 pub row-spec : {M : Type 1} → statement M
 row-spec =

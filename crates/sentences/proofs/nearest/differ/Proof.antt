@@ -1,8 +1,8 @@
 -- `differ` is safe, and ends: with each turn fewer bytes are left. Assumes nothing.
 use Prim.Native.Nat.{_-_}
 use borrow.Author.Needs.{needs}
-use Rattle.answer_text.proofs.nearest.differ.Statement.{statement}
-use Rattle.answer_text.proofs.nearest.differ.Tie as tie
+use Rattle.sentences.proofs.nearest.differ.Statement.{statement}
+use Rattle.sentences.proofs.nearest.differ.Tie as tie
 
 pub differ-spec : {M : Type 1} → statement M
 differ-spec =
