@@ -6,7 +6,6 @@ use script::answer::LineAnswer;
 use script::memory;
 use script::memory::LINE;
 use script::memory::Memory;
-use slot::Settings;
 use text::complement;
 
 // Puts at LINE three numbers each of cell, of sync, of sync's gains and the chips that the slot has left, and of every open code.
