@@ -1,4 +1,6 @@
 // A line's answer as text.
+#![tactic(auto)]
+
 use script::answer::LineAnswer;
 use script::memory::Memory;
 use sentences::sentence::{NEAR, Sentence, UNKNOWN};

@@ -1,6 +1,8 @@
 // The bench of document 01: settings and the slot under way. It goes by value: a call takes the bench and hands back its answer and the
 // new bench. Each call takes any numbers and any bench; where it refuses, it answers document 01's number
 // and hands back the bench that it was given.
+#![tactic(auto)]
+
 ghost use Rattle.std.specs.Prelude.{◌≡◌, length, take, cond, ◌≤◌, eqb, leb};
 ghost use Rattle.complex.specs.Buffers.{written};
 ghost use Rattle.codes.specs.Refusals.{after, gives, outcome, refused};

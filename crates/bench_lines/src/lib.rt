@@ -1,4 +1,6 @@
 // The bench's draws from a line, and what every line leaves; all other calls are handed on.
+#![tactic(auto)]
+
 use bench::Bench;
 use recording_lines::Recording;
 use script::answer::LineAnswer;

@@ -1,4 +1,6 @@
 // The calls of the code rules from a line.
+#![tactic(auto)]
+
 use codes::{
     AllocationAnswer, CellParameter, ChipAnswer, CodeGroup, ElementAnswer, GroupAnswer,
     ModulatedCode, RelatedAnswer, StartAnswer,

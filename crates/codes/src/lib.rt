@@ -3,6 +3,8 @@
 // The modules hold the functions that the crates above call for each chip or block. They refuse nothing and have an answer
 // for every number (docs/DECISIONS.md has a table of those outside their range); `scrambling::signed_by_j` alone asks
 // something, for a number of at most 1 in size.
+#![tactic(auto)]
+
 ghost use Rattle.std.specs.Prelude.{◌≡◌};
 ghost use Rattle.codes.specs.Calls.{element_call, related_call, code_group_call, scrambling_chip_call, answer_of_element, answer_of_related, answer_of_group, answer_of_chip, primary_chip_call, secondary_chip_call, allocation_call, burst_start_call, answer_of_allocation, answer_of_burst_start};
 

@@ -1,1 +1,2 @@
 // No code: the theorems on the crates below.
+#![tactic(auto)]

@@ -1,5 +1,7 @@
 // The analyser's call find: where the primary sync code is strongest in a recording. It takes any buffers,
 // refuses by document 01's number and leaves every buffer as it was where it refuses.
+#![tactic(auto)]
+
 ghost use Rattle.std.specs.Prelude.{◌≡◌, length};
 ghost use Rattle.find.specs.Finding.{find_call, answer_of_find, ScratchLeft};
 

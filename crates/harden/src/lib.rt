@@ -1,5 +1,7 @@
 // The analyser's call harden: hard bits of readings. It takes any buffers,
 // refuses by document 01's number and leaves every buffer as it was where it refuses.
+#![tactic(auto)]
+
 ghost use Rattle.std.specs.Prelude.{◌≡◌, length};
 ghost use Rattle.complex.specs.Buffers.{written};
 ghost use Rattle.codes.specs.Refusals.{outcome, after};

@@ -1,5 +1,7 @@
 // The analyser's call read sync: what a sync burst was sent for. It takes any case and any buffers, writes to
 // none, and refuses by document 01's number.
+#![tactic(auto)]
+
 ghost use Rattle.std.specs.Prelude.{◌≡◌};
 ghost use Rattle.read_sync.specs.SyncReading.{read_sync_call, answer_of_read_sync};
 

@@ -1,4 +1,6 @@
 // The calls of a line that leave the bench alone: those that make a recording of chips and read it, and beside them those of the code rules and of the program itself.
+#![tactic(auto)]
+
 use script::answer::LineAnswer;
 use script::faults::Fault;
 use script::memory::Memory;

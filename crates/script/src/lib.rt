@@ -1,4 +1,6 @@
 // The lines of a script: the forms of its calls, a line as numbers, what it is answered, and the numbers that long lines are about.
+#![tactic(auto)]
+
 pub mod answer;
 pub mod arguments;
 pub mod faults;

@@ -1,4 +1,6 @@
 // A script from its first line to its last.
+#![tactic(auto)]
+
 use bench::Bench;
 use bench_lines::State;
 use calls::Now;

@@ -1,4 +1,6 @@
 // The answers that are one sentence, the words of the refusals, and the call that a word is near to.
+#![tactic(auto)]
+
 use recording_lines::Recording;
 use script::forms::Form;
 

@@ -1,4 +1,6 @@
 // The lines that change settings or start a slot, every call of the bench but draw, and the line that tells settings.
+#![tactic(auto)]
+
 use bench::{Answered, Bench, CallAnswer, PlanAnswer, Planned};
 use bits::Bits;
 use codes::CellParameter;

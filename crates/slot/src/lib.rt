@@ -1,4 +1,6 @@
 // The timeslot of document 01: the settings that it is made of, and its chips.
+#![tactic(auto)]
+
 use codes::CellParameter;
 
 mod burst;

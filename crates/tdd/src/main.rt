@@ -1,4 +1,6 @@
 // The program tdd: runs scripts of calls of bench, analyser and code rules. docs/TDD.md is its manual.
+#![tactic(auto)]
+
 use text::files::Ending;
 use text::{files, words};
 

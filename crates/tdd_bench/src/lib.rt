@@ -1,6 +1,8 @@
 // The bench and the analyser for C and Rust hosts, as include/tdd_bench.h declares them: each export is the call that its name ends with.
 // A bench goes in by value, and the new one comes back beside the answer. `refusal` is document 01's number, or 0 where the call is accepted; place,
 // count and the values of an answer are 0 where there is none.
+#![tactic(auto)]
+
 ghost use Rattle.std.specs.Prelude.{◌≡◌, pos, length, take};
 ghost use Rattle.complex.specs.Buffers.{written};
 ghost use Rattle.codes.specs.Refusals.{after, refusal_of};

@@ -1,5 +1,7 @@
 // The code rules for C and Rust hosts, as include/tdd_codes.h declares them: each export is the call of `codes` that its name ends with.
 // `refusal` is document 01's number, or 0 where the call is accepted; the other fields are 0 where it is refused.
+#![tactic(auto)]
+
 ghost use Rattle.std.specs.Prelude.{◌≡◌, cond, pos};
 ghost use Rattle.complex.specs.Arithmetic.{𝟎};
 ghost use Rattle.codes.specs.Calls.{code_group_call, element_call, related_call, scrambling_chip_call, answer_of_chip, allocation_call, burst_start_call, primary_chip_call, secondary_chip_call};

@@ -1,4 +1,6 @@
 // Text: lines that are read in pieces, words, numbers, a buffer for what is written, files by name.
+#![tactic(auto)]
+
 pub mod answers;
 pub mod complement;
 pub mod files;
