@@ -50,7 +50,7 @@ pub enum ChipAnswer {
 
 // A secondary sync code's number with the unit that modulates it.
 #[repr(C)]
-#[derive(Drop)]
+#[derive(Clone, Copy)]
 pub struct ModulatedCode {
     pub code: u32,
     pub unit: Complex,

@@ -9,7 +9,7 @@ ghost use Rattle.complex.specs.Buffers.{value};
 ghost use Rattle.complex.specs.Fits.{Fits32, ProductFits32};
 
 #[repr(C)]
-#[derive(Drop)]
+#[derive(Clone, Copy)]
 pub struct Complex {
     pub re: i32,
     pub im: i32,
