@@ -34,7 +34,7 @@ pub fn is_bad_frame_or_half(case: u32, frame: u32, half: u32) -> bool
 }
 
 // A code set (A, B, D).
-#[derive(Drop)]
+#[derive(Clone, Copy)]
 pub struct CodeSet {
     pub a: u32,
     pub b: u32,
@@ -67,7 +67,7 @@ fn with_sign(u: Complex, negative: bool) -> Complex
 }
 
 // A row of the allocation table for a code set: a pair of codes with the unit of both, and the marker's code.
-#[derive(Drop)]
+#[derive(Clone, Copy)]
 pub struct AllocationRow {
     pub first: u32,
     pub second: u32,

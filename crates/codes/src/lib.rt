@@ -18,31 +18,31 @@ pub mod tree;
 
 // Named as in the standard's mapping table (table 6): a cell parameter, 0 to 127, and a code group, 0 to 31.
 #[repr(C)]
-#[derive(Drop)]
+#[derive(Clone, Copy)]
 pub struct CellParameter(pub u32);
 
-#[derive(Drop)]
+#[derive(Clone, Copy)]
 pub struct CodeGroup(pub u32);
 
-#[derive(Drop)]
+#[derive(Clone, Copy)]
 pub enum ElementAnswer {
     Element(i32),
     Refused(u32),
 }
 
-#[derive(Drop)]
+#[derive(Clone, Copy)]
 pub enum RelatedAnswer {
     Related(bool),
     Refused(u32),
 }
 
-#[derive(Drop)]
+#[derive(Clone, Copy)]
 pub enum GroupAnswer {
     Group(CodeGroup),
     Refused(u32),
 }
 
-#[derive(Drop)]
+#[derive(Clone, Copy)]
 pub enum ChipAnswer {
     Chip(Complex),
     Refused(u32),
@@ -58,20 +58,20 @@ pub struct ModulatedCode {
 
 // The three codes that a code group sends beside the primary code: the pair, then the marker.
 #[repr(C)]
-#[derive(Drop)]
+#[derive(Clone, Copy)]
 pub struct Allocated {
     pub first: ModulatedCode,
     pub second: ModulatedCode,
     pub marker: ModulatedCode,
 }
 
-#[derive(Drop)]
+#[derive(Clone, Copy)]
 pub enum AllocationAnswer {
     Codes(Allocated),
     Refused(u32),
 }
 
-#[derive(Drop)]
+#[derive(Clone, Copy)]
 pub enum StartAnswer {
     Start(u32),
     Refused(u32),

@@ -7,25 +7,22 @@ use mir.Facts.{to_z-of_z, sfits_widen}
 use Rattle.complex.specs.Fits.{Within}
 use Rattle.complex.proofs.Sizes.{within_neg, fits_within}
 use Rattle.complex.proofs.Machine.{neg_asks, neg_gives}
-use Rattle.analyser_parts.proofs.wide.minus.Statement.{statement}
-use Rattle.analyser_parts.proofs.wide.minus.Tie as tie
+use Rattle.analyser_parts.proofs.wide.minus.Goals as goal
+use Rattle.analyser_parts.proofs.wide.minus.Goals.{Start}
 
-fits : (c : tie.Start) → SFits w64 c.args.x
+fits : (c : Start) → SFits w64 c.args.x
 fits c = sfits_widen tt c.ranges.x
 
-negative : (c : tie.Start) → SFits w64 (neg_ℤ c.args.x)
+negative : (c : Start) → SFits w64 (neg_ℤ c.args.x)
 negative c =
     let h : Within 2147483648 c.args.x = record { size = nat_abs-le c.args.x c.ranges.x.sfits } in
     fits_within (within_neg h) tt
 
-cast-result : tie.Need-overflow-cast-result
-cast-result c = rw (to_z-of_z c.ranges.x) (fits c)
+pub overflow_cast-result : goal.overflow_cast-result
+overflow_cast-result c = rw (to_z-of_z c.ranges.x) (fits c)
 
-sub-result : tie.Need-overflow-sub-result
-sub-result c = rw (to_z-of_z c.ranges.x) (neg_asks (fits c) (negative c))
+pub overflow_sub-result : goal.overflow_sub-result
+overflow_sub-result c = rw (to_z-of_z c.ranges.x) (neg_asks (fits c) (negative c))
 
-returns : tie.Need-returns
+pub returns : goal.returns
 returns c = rw (to_z-of_z c.ranges.x) (neg_gives (fits c) (negative c))
-
-pub minus_spec : {M : Type 1} → statement M
-minus_spec = tie.close (tie.spec cast-result sub-result returns)

@@ -1,0 +1,84 @@
+-- `part` meets its contract. The loop's invariant: the first i chips are written. Assumes nothing.
+use mathlib.Core.Path.{◌≡◌, sym, ap, ap₂, ◌∙◌, subst}
+use Prim.Native.Nat.{ℕ, ◌+◌, ◌*◌, ◌≤◌, ◌<◌, ◌-◌}
+use native.Mathlib.Omega.{arith}
+use borrow.Author.Rules.{rules}
+use lib.IntN.{ℤ, pos, ◌*ℤ◌}
+use mir.Syntax.{w32}
+use mir.Val.{to_z}
+use Rattle.complex.specs.declared.Complex.{Complex}
+use Rattle.complex.specs.Arithmetic.{◌+j◌, real, ◌⊗◌}
+use Rattle.complex.specs.Fits.{Both}
+use Rattle.complex.proofs.Stored.{Is, held, number, stored, fits, within, times}
+use Rattle.complex.specs.Buffers.{◌at◌}
+use Rattle.codes.specs.declared.Allocated.{Allocated}
+use Rattle.codes.specs.SyncCodes.{a_signs}
+use Rattle.codes.specs.Allocation.{allocation}
+use Rattle.codes.specs.Burst.{burst}
+use Rattle.codes.proofs.Rows.{row_within, a_signs_test}
+use Rattle.codes.proofs.Allocations.{AllKnown, allocation_known}
+use Rattle.modulation.specs.SixteenChips.{modulated_parts, part_chip}
+use Rattle.modulation.proofs.BurstParts.{small_units, gained_both, burst_parts, modulated_parts_both}
+use Rattle.modulation.proofs.Blocks.{Filled, filled_none, filled_more, filled_all, block_cong}
+use Rattle.modulation.proofs.burst.part.Goals as goal
+use Rattle.modulation.proofs.burst.part.Goals.{After-a_repeat, After-gained-s, After-modulated_parts-t, Start}
+
+-- the gains are 16-bit numbers
+small : (c : Start) → (c.args.gp ≤ 65535) × (c.args.gs ≤ 65535)
+small c = (omega arith, omega arith)
+
+-- what the locals p, t and s hold
+p_is : (c : After-a_repeat) → let s = c.args in
+    Is 65535 (held c.a_repeat.result *ℤ to_z w32 s.gp) (a_signs at s.m *ℤ pos s.gp)
+p_is c = times (stored (record { equal = c.a_repeat.ensures; size = row_within a_signs a_signs_test _ }) tt) (stored (number 65535 _ (small c.before).0) tt)
+
+module _ (c : After-modulated_parts-t) where
+  abbrev start : tie.Start invariant-loop decreases-loop
+  start = c.before.before.before
+
+  abbrev allocated_codes : Allocated
+  allocated_codes = let s = start.args in allocation s.case s.group.0 s.frame s.half
+
+  abbrev t : Complex
+  t = modulated_parts allocated_codes start.args.m
+
+  t_both : Both 3 t
+  t_both = modulated_parts_both allocated_codes (small_units allocated_codes (allocation_known _ _ _ _)) _
+
+  t_is : c.modulated_parts-t.result ≡ t
+  t_is = c.modulated_parts-t.ensures ∙ ap (λ (s : Allocated). modulated_parts s start.args.m) c.allocated.ensures
+
+s_is : (c : After-gained-s) → c.gained-s.result ≡ real (pos (start c.before).args.gs) ⊗ (t c.before ⊗ (pos 1 +j pos 1))
+s_is c = c.gained-s.ensures ∙ ap (λ (x : Complex). real (pos (start c.before).args.gs) ⊗ (x ⊗ (pos 1 +j pos 1))) (t_is c.before)
+
+-- what the loop writes is the burst
+chip_is : (c : After-gained-s) → let s = (start c.before).args in (i : ℕ) → i < 16
+    → part_chip (held (held c.a_repeat.result *ℤ to_z w32 s.gp)) c.gained-s.result i
+    ≡ burst s.case s.group.0 s.frame s.half s.gp s.gs (s.m * 16 + i)
+chip_is c i h =
+    ap₂ (λ p x. part_chip p x i) (stored (p_is c.before.before.before) tt).equal (s_is c)
+    ∙ sym (burst_parts _ i (start c.before).pre h _ _ _ _ _ _)
+
+pub overflow_mul-p : goal.overflow_mul-p
+overflow_mul-p c = fits (p_is c) tt
+
+pub modulated_parts-t-requires : goal.modulated_parts-t-requires
+modulated_parts-t-requires c = small_units _ (subst AllKnown (sym c.allocated.ensures) (allocation_known _ _ _ _))
+
+pub gained-s-requires : goal.gained-s-requires
+gained-s-requires c = subst (Both 3) (sym (t_is c)) (t_both c)
+
+pub loop-i-init : goal.loop-i-init
+loop-i-init c = filled_none
+
+pub part_chip-c-requires : goal.part_chip-c-requires
+part_chip-c-requires c =
+    (within (stored (p_is (goal.at.part_chip-c-requires c).After-a_repeat) tt), subst (Both 400000) (sym (s_is (goal.at.part_chip-c-requires c).After-gained-s)) (gained_both _ _ (small (start (goal.at.part_chip-c-requires c).After-modulated_parts-t)).1 (t_both (goal.at.part_chip-c-requires c).After-modulated_parts-t)))
+
+pub loop-i-preserved : goal.loop-i-preserved
+loop-i-preserved c =
+    let r = c.part_chip-c in
+    filled_more c.loop-i.invariant (omega arith) r.result (search rules) r.ensures
+
+pub returns : goal.returns
+returns c = filled_all c.loop-i.invariant (omega arith) ∙ block_cong _ _ (chip_is (goal.at.returns c).After-gained-s)

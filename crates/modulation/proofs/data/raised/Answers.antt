@@ -1,0 +1,21 @@
+-- `raised` meets its contract: the loop fills the array. Assumes nothing.
+use Prim.Native.Nat.{◌-◌}
+use native.Mathlib.Omega.{arith}
+use borrow.Author.Rules.{rules}
+use Rattle.modulation.specs.SixteenChips.{raised}
+use Rattle.modulation.proofs.Blocks.{Row, row_none, row_more, row_all}
+use Rattle.modulation.proofs.data.raised.Goals as goal
+
+pub loop-i-init : goal.loop-i-init
+loop-i-init c = row_none
+
+pub raised_entry-requires : goal.raised_entry-requires
+raised_entry-requires c = let p = c.requires in (p.0, omega arith, p.1)
+
+pub loop-i-preserved : goal.loop-i-preserved
+loop-i-preserved c =
+    let r = c.raised_entry in
+    row_more c.loop-i.invariant (omega arith) (search rules) r.ensures
+
+pub returns : goal.returns
+returns c = row_all c.loop-i.invariant (omega arith)
