@@ -5,7 +5,7 @@ usage: tools/port/respell.py            at the top of the repository: rewrites t
 
 Words are in snake case and types in camel case; a dash stays beside a sign, as in `conj-⊕`. Names that Rattle makes (goals, `invariant-..`)
 and those of the Rust source stay. It goes by whole words: in .antt the code and the code spans of comments, in .rt the clauses and the
-`ghost use` items, in an .edit of specs/ or proofs/ the lines of text, in docs/CLAIMS.md the code spans.
+`ghost use` items (also the names that a file gives what it imports), in an .edit of specs/ or proofs/ the lines of text, in docs/CLAIMS.md the code spans.
 """
 import collections
 import glob
@@ -97,6 +97,15 @@ def table():
     return rows
 
 
+ALIAS = re.compile(r"(?m)^(?:ghost )?use [^\n;]*? as ([^\s,};]+)|(?<=[{,]) ?[^\s,{}]+ as ([^\s,};]+)")
+
+
+def aliases(t):
+    """The names that a file gives what it imports, as in `use M.{reading as reading-of}`."""
+    names = {m[1] or m[2] for m in ALIAS.finditer(t)}
+    return {n: respelled(n) for n in names if "-" in n and not n.startswith("#")}
+
+
 def turned(t, rows):
     return WORD.sub(lambda m: rows.get(m[0], m[0]), t)
 
@@ -143,7 +152,7 @@ def main():
     for paths, turn in ((files(".antt"), antt), (files(".rt"), rt), (files(".edit"), edit), (["docs/CLAIMS.md"], spans)):
         for p in list(paths):
             t = text(p)
-            n = turn(t, rows)
+            n = turn(t, rows | aliases(t))
             if n != t:
                 with open(p, "w", encoding="utf-8") as f:
                     f.write(n)

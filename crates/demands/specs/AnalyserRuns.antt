@@ -7,14 +7,14 @@ use Rattle.complex.specs.Buffers.{Values, written}
 use Rattle.codes.specs.Refusals.{Answer, gives}
 use Rattle.read.specs.declared.ReadAnswer.{ReadAnswer}
 use Rattle.read.specs.Reading.{answer_of_read}
-use Rattle.read.proofs.read.Reads as read-contract
+use Rattle.read.proofs.read.Reads as read_contract
 use Rattle.harden.specs.declared.HardenAnswer.{HardenAnswer}
 use Rattle.harden.specs.Hardening.{answer_of_harden}
-use Rattle.harden.proofs.harden.Reads as harden-contract
+use Rattle.harden.proofs.harden.Reads as harden_contract
 use Rattle.read_sync.specs.declared.Candidate.{Candidate}
 use Rattle.read_sync.specs.declared.SyncAnswer.{SyncAnswer}
 use Rattle.read_sync.specs.SyncReading.{answer_of_read_sync}
-use Rattle.read_sync.proofs.read_sync.Reads as read-sync-contract
+use Rattle.read_sync.proofs.read_sync.Reads as read_sync_contract
 
 -- what a function answered, and what it left in the buffers that it was lent to write to
 pub record Output (B : Type 0) : Type 0 where
@@ -28,17 +28,17 @@ both re im = record { re = re.now; im = im.now }
 -- read (parameter, Q, k, field, two answer buffers) answered and left y
 pub data RanRead (p Q k : ℕ) : (field out : Values) → Output Values → Type 0 where
   by_read : (κs : Lfts 4) (re im outre outim : Bor (List ℤ)) (r : ReadAnswer) (e : _)
-      → read-contract.Learnt κs (record { 0 = p }, (Q, (k, (re, (im, (outre, (outim, tt))))))) r e
+      → read_contract.Learnt κs (record { 0 = p }, (Q, (k, (re, (im, (outre, (outim, tt))))))) r e
       → RanRead p Q k (both re im) (both outre outim) (record { answer = answer_of_read r; left = both e.1.1.1.1.1.0 e.1.1.1.1.1.1.0 })
 
 -- harden (readings, byte buffer) answered and left y
 pub data RanHarden : (readings : Values) (bits : List ℕ) → Output (List ℕ) → Type 0 where
-  by_harden : (κs : Lfts 3) (re im : Bor (List ℤ)) (bits : Bor (List ℕ)) (r : HardenAnswer) (e : _) → harden-contract.Learnt κs (re, (im, (bits, tt))) r e
+  by_harden : (κs : Lfts 3) (re im : Bor (List ℤ)) (bits : Bor (List ℕ)) (r : HardenAnswer) (e : _) → harden_contract.Learnt κs (re, (im, (bits, tt))) r e
       → RanHarden (both re im) bits.now (record { answer = answer_of_harden r; left = e.1.1.0.now })
 
 -- read sync (case, chips) answered t
 pub data RanReadSync (case : ℕ) : (chips : Values) → Answer Candidate → Type 0 where
-  by_read_sync : (κs : Lfts 2) (re im : Bor (List ℤ)) (r : SyncAnswer) (e : _) → read-sync-contract.Learnt κs (case, (re, (im, tt))) r e
+  by_read_sync : (κs : Lfts 2) (re im : Bor (List ℤ)) (r : SyncAnswer) (e : _) → read_sync_contract.Learnt κs (case, (re, (im, tt))) r e
       → RanReadSync case (both re im) (answer_of_read_sync r)
 
 -- accepted, and these values written: "entries past those written stay"

@@ -7,7 +7,7 @@ ghost use Rattle.complex.specs.Fits.{Within, Both, Bound};
 ghost use Rattle.codes.specs.Refusals.{refusal_number};
 ghost use Rattle.analyser_parts.specs.Peaks.{Peaks};
 ghost use Rattle.analyser_parts.specs.PartSums.{primary_sum};
-ghost use Rattle.find.specs.Finding.{find_refusals, longest_recording, peak as peak-of, scratch_length, shortest_recording, start_count};
+ghost use Rattle.find.specs.Finding.{find_refusals, longest_recording, peak as peak_of, scratch_length, shortest_recording, start_count};
 ghost use Rattle.find.specs.PeakSearch.{Bounded, Covers, four_of, lower_of, lowered_of, PeaksBelow, sizes, size_of};
 
 use crate::Peak;
@@ -246,7 +246,7 @@ fn strongest(re: &[i32], im: &[i32]) -> Largest
 // The peak of a recording.
 pub fn peak(re: &[i32], im: &[i32], sumre: &mut [i32], sumim: &mut [i32]) -> Peak
     requires { (256 ≤ length re.now) × (length re.now ≤ 5120) × (length re.now ≡ length im.now) × (scratch_length (length re.now) ≤ length sumre.old) × (scratch_length (length re.now) ≤ length sumim.old) × Bound 100000 re.now × Bound 100000 im.now }
-    ensures { result ≡ peak-of (value re.now im.now) (length re.now) }
+    ensures { result ≡ peak_of (value re.now im.now) (length re.now) }
 {
     let n = re.len();
     let mut t = [0i32; 5120];

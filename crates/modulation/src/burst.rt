@@ -4,7 +4,7 @@ ghost use Rattle.complex.specs.Arithmetic.{◌+j◌, real, 𝟎, ◌⊗◌};
 ghost use Rattle.complex.specs.Buffers.{listed};
 ghost use Rattle.complex.specs.Fits.{Both, Bound, Within};
 ghost use Rattle.codes.specs.Burst.{burst};
-ghost use Rattle.modulation.specs.SixteenChips.{block_of, modulated_part as modulated-part-of, modulated_parts as modulated-parts-of, part_chip as part-chip-of};
+ghost use Rattle.modulation.specs.SixteenChips.{block_of, modulated_part as modulated_part_of, modulated_parts as modulated_parts_of, part_chip as part_chip_of};
 
 use crate::Block;
 use codes::signs::sign_at;
@@ -14,7 +14,7 @@ use complex::Complex;
 // The unit of a modulated code with the sign of the code's part m.
 fn modulated_part(c: ModulatedCode, m: u32) -> Complex
     requires { Both 1 c.unit }
-    ensures { result ≡ modulated-part-of c m }
+    ensures { result ≡ modulated_part_of c m }
 {
     let sign = sign_at(sync::secondary_row(c.code), m);
     Complex {
@@ -26,7 +26,7 @@ fn modulated_part(c: ModulatedCode, m: u32) -> Complex
 // What part m of the three codes adds up to, as a multiple of (1 + j) b.
 fn modulated_parts(s: Allocated, m: u32) -> Complex
     requires { Both 1 s.first.unit × Both 1 s.second.unit × Both 1 s.marker.unit }
-    ensures { result ≡ modulated-parts-of s m }
+    ensures { result ≡ modulated_parts_of s m }
 {
     modulated_part(s.first, m)
         .plus(modulated_part(s.second, m))
@@ -48,7 +48,7 @@ fn gained(g: u16, t: Complex) -> Complex
 // Chip i of a part: (1 + j) p times a, and s times b.
 fn part_chip(p: i32, s: Complex, i: u32) -> Complex
     requires { Within 65535 p × Both 400000 s }
-    ensures { result ≡ part-chip-of p s i }
+    ensures { result ≡ part_chip_of p s i }
 {
     let u = sync::a_sign(i) * p;
     let sign = sync::b_sign(i);

@@ -3,9 +3,9 @@ ghost use Rattle.std.specs.Prelude.{◌≡◌, true, cond, ℕ, ◌+◌, ◌/◌
 ghost use Rattle.complex.specs.Buffers.{listed};
 ghost use Rattle.complex.specs.Fits.{Bound, Within};
 ghost use Rattle.codes.specs.Tree.{is_spreading_factor, width};
-ghost use Rattle.modulation.specs.Symbols.{symbol as symbol-of};
+ghost use Rattle.modulation.specs.Symbols.{symbol as symbol_of};
 ghost use Rattle.modulation.specs.Nodes.{node as node_of};
-ghost use Rattle.modulation.specs.SixteenChips.{block_chip, block_of, climbed as climbed-of, component as component-of, has_open, with_own, levels_of, raised as raised_of, summed as summed-of, scrambling_signs, scrambled as scrambled-of};
+ghost use Rattle.modulation.specs.SixteenChips.{block_chip, block_of, climbed as climbed_of, component as component_of, has_open, with_own, levels_of, raised as raised_of, summed as summed_of, scrambling_signs, scrambled as scrambled_of};
 
 use crate::Block;
 use codes::{CellParameter, scrambling};
@@ -13,7 +13,7 @@ use complex::Complex;
 
 // The symbol of a pair of bits, by the pair's number.
 fn symbol(pair: u8) -> Complex
-    ensures { result ≡ symbol-of pair }
+    ensures { result ≡ symbol_of pair }
 {
     match pair {
         0 => Complex { re: 0, im: 1 },
@@ -26,7 +26,7 @@ fn symbol(pair: u8) -> Complex
 
 // One component of a value, the real or the imaginary one.
 fn component(z: Complex, real: bool) -> i32
-    ensures { result ≡ component-of z real }
+    ensures { result ≡ component_of z real }
 {
     if real { z.re } else { z.im }
 }
@@ -34,7 +34,7 @@ fn component(z: Complex, real: bool) -> i32
 // One component of the symbols of the sixteen pairs from `from` on.
 fn symbols(pairs: &[u8; 2208], from: usize, real: bool) -> [i32; 16]
     requires { from + 16 ≤ 2208 }
-    ensures { result ≡ listed 16 (λ i. component-of (symbol-of (get_or pairs.now (from + i) 0)) real) }
+    ensures { result ≡ listed 16 (λ i. component_of (symbol_of (get_or pairs.now (from + i) 0)) real) }
 {
     let mut x = [0i32; 16];
     for i in 0..16 {
@@ -128,7 +128,7 @@ fn with_own(gains: &[u16; 31], s: &[i32; 16], x: &[i32; 16], q: usize) -> [i32; 
 // there is nothing to add.
 fn climbed(gains: &[u16; 31], any_open: bool, s: &[i32; 16], x: &[i32; 16], q: usize) -> [i32; 16]
     requires { (is_spreading_factor q ≡ true) × (any_open ≡ has_open gains.now q) × Bound 1 s.now × Bound 983025 x.now }
-    ensures entries { result ≡ listed 16 (climbed-of gains.now s.now x.now q) }
+    ensures entries { result ≡ listed 16 (climbed_of gains.now s.now x.now q) }
     ensures size { (k : ℕ) → k ≤ 983025 → Bound k x.now → Bound (k + k + 65535) result }
 {
     let mut y = raised(x, q);
@@ -176,7 +176,7 @@ pub fn open_levels(gains: &[u16; 31]) -> OpenLevels
 // differences up the tree, since each code stands in the two below it, once with its second half negated.
 fn summed(gains: &[u16; 31], levels: OpenLevels, s: &[i32; 16]) -> [i32; 16]
     requires { (levels ≡ levels_of gains.now) × Bound 1 s.now }
-    ensures entries { result ≡ listed 16 (summed-of gains.now s.now) }
+    ensures entries { result ≡ listed 16 (summed_of gains.now s.now) }
     ensures size { Bound 2031585 result }
 {
     // Level 16 has none below it: these are not looked at.
@@ -223,7 +223,7 @@ fn signed(s: i32, x: i32) -> i32
 // Entry i of `even` where i is even, else of `odd`, times t's.
 fn scrambled_entry(t: &[i32; 16], even: &[i32; 16], odd: &[i32; 16], i: usize) -> i32
     requires { (i < 16) × Bound 1 t.now × Bound 2031585 even.now × Bound 2031585 odd.now }
-    ensures { result ≡ scrambled-of t.now even.now odd.now i }
+    ensures { result ≡ scrambled_of t.now even.now odd.now i }
 {
     if i % 2 == 0 {
         signed(t[i], even[i])
@@ -236,7 +236,7 @@ fn scrambled_entry(t: &[i32; 16], even: &[i32; 16], odd: &[i32; 16], i: usize) -
 // it at even places and at odd ones.
 fn scrambled(t: &[i32; 16], even: &[i32; 16], odd: &[i32; 16]) -> [i32; 16]
     requires { Bound 1 t.now × Bound 2031585 even.now × Bound 2031585 odd.now }
-    ensures { result ≡ listed 16 (scrambled-of t.now even.now odd.now) }
+    ensures { result ≡ listed 16 (scrambled_of t.now even.now odd.now) }
 {
     let mut y = [0i32; 16];
     for i in 0..16 {

@@ -7,7 +7,7 @@ ghost use Rattle.complex.specs.Arithmetic.{◌+j◌, ◌⊗◌};
 ghost use Rattle.complex.specs.Buffers.{listed, value, written};
 ghost use Rattle.complex.specs.Fits.{Both, Bound};
 ghost use Rattle.read.specs.Multipliers.{PowerOfJ, PowersOfJ};
-ghost use Rattle.read.specs.Reading.{reading as reading-of};
+ghost use Rattle.read.specs.Reading.{reading as reading_of};
 
 use crate::reading;
 use crate::signed::both_signed;
@@ -98,8 +98,8 @@ pub fn all(
 )
     requires cell_bound { (cell.0 < 128) × (k < 1) × (length re.now ≡ length im.now) × (length re.now ≤ 1104) × (length re.now % 16 ≡ 0) × (length re.now ≤ length outre.old) × (length re.now ≤ length outim.old) }
     requires bound { Bound 100000 re.now × Bound 100000 im.now }
-    ensures real { outre.new ≡ written (listed (length re.now) (λ n. (reading-of cell.0 1 k (value re.now im.now) n).re)) outre.old }
-    ensures imaginary { outim.new ≡ written (listed (length re.now) (λ n. (reading-of cell.0 1 k (value re.now im.now) n).im)) outim.old }
+    ensures real { outre.new ≡ written (listed (length re.now) (λ n. (reading_of cell.0 1 k (value re.now im.now) n).re)) outre.old }
+    ensures imaginary { outim.new ≡ written (listed (length re.now) (λ n. (reading_of cell.0 1 k (value re.now im.now) n).im)) outim.old }
 {
     let w = reading::multipliers(cell, 1, k);
     let wre = w.re;

@@ -4,8 +4,8 @@ ghost use Rattle.complex.specs.Fits.{Bound};
 ghost use Rattle.complex.specs.Buffers.{listed, value, written};
 ghost use Rattle.codes.specs.Refusals.{refusal_number};
 ghost use Rattle.codes.specs.Tree.{is_spreading_factor};
-ghost use Rattle.read.specs.Reading.{bad_field_length, read_refusals, reading as reading-of};
-ghost use Rattle.read.specs.Multipliers.{multiplied_sum, multiplier as multiplier-of};
+ghost use Rattle.read.specs.Reading.{bad_field_length, read_refusals, reading as reading_of};
+ghost use Rattle.read.specs.Multipliers.{multiplied_sum, multiplier as multiplier_of};
 
 use crate::{one, sixteen};
 use analyser_parts::components;
@@ -58,7 +58,7 @@ pub fn refusal(
 // What chip i of each sixteen is multiplied by.
 fn multiplier(cell: CellParameter, q: u32, k: u32, i: u32) -> Complex
     requires { 0 < q }
-    ensures { result ≡ multiplier-of cell.0 q k i }
+    ensures { result ≡ multiplier_of cell.0 q k i }
 {
     let sign = Complex {
         re: tree::code_sign(q, k, i % q),
@@ -76,7 +76,7 @@ pub struct CodeMultipliers {
 
 pub fn multipliers(cell: CellParameter, q: u32, k: u32) -> CodeMultipliers
     requires { 0 < q }
-    ensures { (result.re ≡ listed 16 (λ i. (multiplier-of cell.0 q k i).re)) × (result.im ≡ listed 16 (λ i. (multiplier-of cell.0 q k i).im)) }
+    ensures { (result.re ≡ listed 16 (λ i. (multiplier_of cell.0 q k i).re)) × (result.im ≡ listed 16 (λ i. (multiplier_of cell.0 q k i).im)) }
 {
     let mut re = [0i32; 16];
     let mut im = [0i32; 16];
@@ -124,8 +124,8 @@ fn by_products(
 )
     requires q_value { (is_spreading_factor q ≡ true) × (length re.now ≡ length im.now) × (length re.now ≤ 1104) × (length re.now / q ≤ length outre.old) × (length re.now / q ≤ length outim.old) }
     requires bound { Bound 100000 re.now × Bound 100000 im.now }
-    ensures real { outre.new ≡ written (listed (length re.now / q) (λ n. (reading-of cell.0 q k (value re.now im.now) n).re)) outre.old }
-    ensures imaginary { outim.new ≡ written (listed (length re.now / q) (λ n. (reading-of cell.0 q k (value re.now im.now) n).im)) outim.old }
+    ensures real { outre.new ≡ written (listed (length re.now / q) (λ n. (reading_of cell.0 q k (value re.now im.now) n).re)) outre.old }
+    ensures imaginary { outim.new ≡ written (listed (length re.now / q) (λ n. (reading_of cell.0 q k (value re.now im.now) n).im)) outim.old }
 {
     let w = multipliers(cell, q, k);
     let wre = w.re;
@@ -152,8 +152,8 @@ pub fn all(
 )
     requires cell_bound { (cell.0 < 128) × (is_spreading_factor q ≡ true) × (k < q) × (length re.now ≡ length im.now) × (length re.now ≤ 1104) × (length re.now % 16 ≡ 0) × (length re.now / q ≤ length outre.old) × (length re.now / q ≤ length outim.old) }
     requires bound { Bound 100000 re.now × Bound 100000 im.now }
-    ensures real { outre.new ≡ written (listed (length re.now / q) (λ n. (reading-of cell.0 q k (value re.now im.now) n).re)) outre.old }
-    ensures imaginary { outim.new ≡ written (listed (length re.now / q) (λ n. (reading-of cell.0 q k (value re.now im.now) n).im)) outim.old }
+    ensures real { outre.new ≡ written (listed (length re.now / q) (λ n. (reading_of cell.0 q k (value re.now im.now) n).re)) outre.old }
+    ensures imaginary { outim.new ≡ written (listed (length re.now / q) (λ n. (reading_of cell.0 q k (value re.now im.now) n).im)) outim.old }
 {
     match q {
         1 => one::all(cell, k, re, im, outre, outim),

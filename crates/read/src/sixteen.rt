@@ -8,7 +8,7 @@ ghost use Rattle.complex.specs.Fits.{Both, Bound};
 ghost use Rattle.codes.specs.PackedSigns.{sign_bit, signed_by_j};
 ghost use Rattle.codes.specs.Tree.{element};
 ghost use Rattle.read.specs.Multipliers.{from_lanes, lane as lane_of, lanes_of, place_sign, Signs};
-ghost use Rattle.read.specs.Reading.{reading as reading-of};
+ghost use Rattle.read.specs.Reading.{reading as reading_of};
 
 use crate::signed::both_signed;
 use codes::signs::sign_at;
@@ -134,8 +134,8 @@ pub fn all(
 )
     requires cell_bound { (cell.0 < 128) × (k < 16) × (length re.now ≡ length im.now) × (length re.now ≤ 1104) × (length re.now / 16 ≤ length outre.old) × (length re.now / 16 ≤ length outim.old) }
     requires bound { Bound 100000 re.now × Bound 100000 im.now }
-    ensures real { outre.new ≡ written (listed (length re.now / 16) (λ n. (reading-of cell.0 16 k (value re.now im.now) n).re)) outre.old }
-    ensures imaginary { outim.new ≡ written (listed (length re.now / 16) (λ n. (reading-of cell.0 16 k (value re.now im.now) n).im)) outim.old }
+    ensures real { outre.new ≡ written (listed (length re.now / 16) (λ n. (reading_of cell.0 16 k (value re.now im.now) n).re)) outre.old }
+    ensures imaginary { outim.new ≡ written (listed (length re.now / 16) (λ n. (reading_of cell.0 16 k (value re.now im.now) n).im)) outim.old }
 {
     let s = signs(cell, k);
     let mut u = [0i32; 276];

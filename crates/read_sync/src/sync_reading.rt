@@ -10,8 +10,8 @@ ghost use Rattle.codes.specs.PackedSigns.{packed};
 ghost use Rattle.codes.specs.SyncCodes.{a, b};
 ghost use Rattle.codes.specs.Allocation.{allocation_row, one_or_two};
 ghost use Rattle.analyser_parts.specs.PartSums.{correlated, part_sums};
-ghost use Rattle.read_sync.specs.SyncReading.{candidate as candidate-of, candidate_codes, candidate_count, score as score_of, read_sync_refusals};
-ghost use Rattle.read_sync.specs.Shares.{product as product-of, shares_of};
+ghost use Rattle.read_sync.specs.SyncReading.{candidate as candidate_of, candidate_codes, candidate_count, score as score_of, read_sync_refusals};
+ghost use Rattle.read_sync.specs.Shares.{product as product_of, shares_of};
 ghost use Rattle.read_sync.specs.Leaders.{leader_in_row, leader_of_row, leader_of_signs, leader_or_later, leader_with, Leads, Led, place_in_row, SmallSet};
 
 use crate::Candidate;
@@ -103,7 +103,7 @@ fn times_conjugate(s: Complex, p: Complex) -> WideComplex
 // The correlation with secondary code i times the conjugate of p, from the sums of the parts; 0 where no code has the number.
 fn product(re: &[i32; 16], im: &[i32; 16], p: Complex, i: u32) -> WideComplex
     requires { Bound 1600000 re.now × Bound 1600000 im.now × Both 51200000 p }
-    ensures { result.re +j result.im ≡ product-of re.now im.now p i }
+    ensures { result.re +j result.im ≡ product_of re.now im.now p i }
 {
     if !sync::is_sync_code(i) {
         return WideComplex { re: 0, im: 0 };
@@ -121,7 +121,7 @@ pub struct SecondaryProducts {
 // The correlations with the secondary codes, each times the conjugate of p, from the sums of the parts.
 fn products(re: &[i32; 16], im: &[i32; 16], p: Complex) -> SecondaryProducts
     requires { Bound 1600000 re.now × Bound 1600000 im.now × Both 51200000 p }
-    ensures { (result.re ≡ listed 16 (λ i. (product-of re.now im.now p i).re)) × (result.im ≡ listed 16 (λ i. (product-of re.now im.now p i).im)) }
+    ensures { (result.re ≡ listed 16 (λ i. (product_of re.now im.now p i).re)) × (result.im ≡ listed 16 (λ i. (product_of re.now im.now p i).im)) }
 {
     let mut x = [0i64; 16];
     let mut y = [0i64; 16];
@@ -137,7 +137,7 @@ fn products(re: &[i32; 16], im: &[i32; 16], p: Complex) -> SecondaryProducts
 
 // Candidate n of a case: group by group, in a group frame by frame.
 pub fn candidate(case: u32, n: u32) -> Candidate
-    ensures { result ≡ candidate-of case n }
+    ensures { result ≡ candidate_of case n }
 {
     if case == 1 {
         Candidate {
@@ -275,7 +275,7 @@ fn leader_in_row(re: &[i64; 16], im: &[i64; 16], case: u32, set: CodeSet, n: u32
 // The leader of a code set, candidates 32n to 32n + 31: eight for each of the four rows.
 fn set_leader(re: &[i64; 16], im: &[i64; 16], case: u32, n: u32) -> Leader
     requires { (case < 3) × (n < 2 * case) × Bound 5300000000000000 re.now × Bound 5300000000000000 im.now }
-    ensures { Leads (λ k. shares_of (value re.now im.now) (candidate_codes case (candidate-of case (32 * n + k)))) 32 result }
+    ensures { Leads (λ k. shares_of (value re.now im.now) (candidate_codes case (candidate_of case (32 * n + k)))) 32 result }
 {
     let set = burst::code_set(1 + n);
     let one = leader_in_row(re, im, case, set, 0);
@@ -287,7 +287,7 @@ fn set_leader(re: &[i64; 16], im: &[i64; 16], case: u32, n: u32) -> Leader
 // The leader of all candidates, set by set: two sets in case 1, four in case 2.
 fn lead_of_all(re: &[i64; 16], im: &[i64; 16], case: u32) -> Leader
     requires { (one_or_two case ≡ true) × Bound 5300000000000000 re.now × Bound 5300000000000000 im.now }
-    ensures { Leads (λ n. shares_of (value re.now im.now) (candidate_codes case (candidate-of case n))) (candidate_count case) result }
+    ensures { Leads (λ n. shares_of (value re.now im.now) (candidate_codes case (candidate_of case n))) (candidate_count case) result }
 {
     let mut leader = set_leader(re, im, case, 0);
     for n in 1..2 * case {

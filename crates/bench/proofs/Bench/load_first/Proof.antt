@@ -65,9 +65,9 @@ use Rattle.bench.proofs.Planned.TheLaws as P'
 use Rattle.bench.specs.contracts.PlanRecords as S
 use Rattle.bench.proofs.PlanRecords.TheLaws as S'
 use Rattle.bench.specs.contracts.Bench.load_plan as g
-use Rattle.bench.proofs.Bench.load_plan.Symbol as g-def
+use Rattle.bench.proofs.Bench.load_plan.Symbol as g_def
 use Rattle.bench.proofs.Bench.load_plan.Symbol.{name as #load-plan}
-use Rattle.bench.proofs.Bench.load_plan.Met as g-thm
+use Rattle.bench.proofs.Bench.load_plan.Met as g_thm
 use Rattle.bench.specs.contracts.Bench.load_first.Key.{name as #load-first}
 use Rattle.bench.specs.contracts.Bench.load_first as f
 use Rattle.bench.proofs.Bench.load_first.Statement as stated
@@ -247,4 +247,4 @@ load_first_spec 𝓤 𝓛 𝓜 𝓡 =
     entered 𝓤 𝓛.H (triple_of 𝓛 f.signature (f.spec 𝓛 𝓜.mem 𝓡.run))
     (tables 𝓤 𝓛.H 𝓜 𝓡 code.env).C (tables 𝓤 𝓛.H 𝓜 𝓡 code.env).Λ #load-first code.function (code.unfolded 𝓤 𝓛.H 𝓜 𝓡)
     (load_first_meets 𝓛 𝓜.mem 𝓡.run (tables_of 𝓤 𝓛.H 𝓜 (tables 𝓤 𝓛.H 𝓜 𝓡 code.env))
-    (cited 𝓤 𝓛.H (LoadPlan 𝓛 𝓜.mem 𝓡.run) 𝓜 𝓡 code.env #load-plan g-def.routine code.calls-bench::Bench::load-plan (g-thm.met 𝓤 𝓛 𝓜 𝓡)))
+    (cited 𝓤 𝓛.H (LoadPlan 𝓛 𝓜.mem 𝓡.run) 𝓜 𝓡 code.env #load-plan g_def.routine code.calls-bench::Bench::load-plan (g_thm.met 𝓤 𝓛 𝓜 𝓡)))

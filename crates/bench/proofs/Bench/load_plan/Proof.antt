@@ -64,17 +64,17 @@ use Rattle.bench.proofs.Planned.TheLaws as P'
 use Rattle.bench.specs.contracts.taken.Taken as T
 use Rattle.bench.proofs.taken.Taken.TheLaws as T'
 use Rattle.bench.specs.contracts.taken.none as none
-use Rattle.bench.proofs.taken.none.Symbol as none-def
+use Rattle.bench.proofs.taken.none.Symbol as none_def
 use Rattle.bench.proofs.taken.none.Symbol.{name as #none}
-use Rattle.bench.proofs.taken.none.Met as none-thm
+use Rattle.bench.proofs.taken.none.Met as none_thm
 use Rattle.bench.specs.contracts.taken.Taken.with_record as record'
-use Rattle.bench.proofs.taken.Taken.with_record.Symbol as record-def
+use Rattle.bench.proofs.taken.Taken.with_record.Symbol as record_def
 use Rattle.bench.proofs.taken.Taken.with_record.Symbol.{name as #record}
-use Rattle.bench.proofs.taken.Taken.with_record.Met as record-thm
+use Rattle.bench.proofs.taken.Taken.with_record.Met as record_thm
 use Rattle.bench.specs.contracts.taken.Taken.settled as settled'
-use Rattle.bench.proofs.taken.Taken.settled.Symbol as settled-def
+use Rattle.bench.proofs.taken.Taken.settled.Symbol as settled_def
 use Rattle.bench.proofs.taken.Taken.settled.Symbol.{name as #settled}
-use Rattle.bench.proofs.taken.Taken.settled.Met as settled-thm
+use Rattle.bench.proofs.taken.Taken.settled.Met as settled_thm
 use Rattle.bench.specs.contracts.Bench.load_plan.Key.{name as #load-plan}
 use Rattle.bench.specs.contracts.Bench.load_plan as f
 use Rattle.bench.proofs.Bench.load_plan.Statement as stated
@@ -385,6 +385,6 @@ load_plan_spec 𝓤 𝓛 𝓜 𝓡 =
     entered 𝓤 𝓛.H (triple_of 𝓛 f.signature (f.spec 𝓛 𝓜.mem 𝓡.run))
     (tables 𝓤 𝓛.H 𝓜 𝓡 code.env).C (tables 𝓤 𝓛.H 𝓜 𝓡 code.env).Λ #load-plan code.function (code.unfolded 𝓤 𝓛.H 𝓜 𝓡)
     (load_plan_meets 𝓛 𝓜.mem 𝓡.run (tables_of 𝓤 𝓛.H 𝓜 (tables 𝓤 𝓛.H 𝓜 𝓡 code.env))
-    (cited 𝓤 𝓛.H (None 𝓛 𝓜.mem 𝓡.run) 𝓜 𝓡 code.env #none none-def.routine code.calls-bench::taken::none (none-thm.met 𝓤 𝓛 𝓜 𝓡))
-    (cited 𝓤 𝓛.H (Record 𝓛 𝓜.mem 𝓡.run) 𝓜 𝓡 code.env #record record-def.routine code.calls-bench::taken::Taken::with-record (record-thm.met 𝓤 𝓛 𝓜 𝓡))
-    (cited 𝓤 𝓛.H (Settled 𝓛 𝓜.mem 𝓡.run) 𝓜 𝓡 code.env #settled settled-def.routine code.calls-bench::taken::Taken::settled (settled-thm.met 𝓤 𝓛 𝓜 𝓡)))
+    (cited 𝓤 𝓛.H (None 𝓛 𝓜.mem 𝓡.run) 𝓜 𝓡 code.env #none none_def.routine code.calls-bench::taken::none (none_thm.met 𝓤 𝓛 𝓜 𝓡))
+    (cited 𝓤 𝓛.H (Record 𝓛 𝓜.mem 𝓡.run) 𝓜 𝓡 code.env #record record_def.routine code.calls-bench::taken::Taken::with-record (record_thm.met 𝓤 𝓛 𝓜 𝓡))
+    (cited 𝓤 𝓛.H (Settled 𝓛 𝓜.mem 𝓡.run) 𝓜 𝓡 code.env #settled settled_def.routine code.calls-bench::taken::Taken::settled (settled_thm.met 𝓤 𝓛 𝓜 𝓡)))
