@@ -151,7 +151,7 @@ fn is_any_open(gains: &[u16; 31], q: usize) -> bool
 }
 
 // Which levels of the tree have an open code.
-#[derive(Drop)]
+#[derive(Clone, Copy)]
 pub struct OpenLevels {
     pub q1: bool,
     pub q2: bool,

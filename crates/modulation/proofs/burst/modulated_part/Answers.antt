@@ -10,10 +10,10 @@ use Rattle.codes.specs.PackedSigns.{sign_bit, secondary_row}
 use Rattle.codes.proofs.Rows.{sign_within}
 use Rattle.modulation.specs.SixteenChips.{modulated_part}
 use Rattle.modulation.proofs.burst.modulated_part.Goals as goal
-use Rattle.modulation.proofs.burst.modulated_part.Goals.{After-sign_at-sign}
+use Rattle.modulation.proofs.burst.modulated_part.Goals.{After-sign_at-sign, Start}
 
 module _ (c : After-sign_at-sign) where
-  abbrev start : tie.Start
+  abbrev start : Start
   start = c.before.before
 
   sign : Is 1 (held c.sign_at-sign.result) (sign_bit (secondary_row start.args.c.code) start.args.m)

@@ -33,7 +33,7 @@ p_is : (c : After-a_repeat) → let s = c.args in
 p_is c = times (stored (record { equal = c.a_repeat.ensures; size = row_within a_signs a_signs_test _ }) tt) (stored (number 65535 _ (small c.before).0) tt)
 
 module _ (c : After-modulated_parts-t) where
-  abbrev start : tie.Start invariant-loop decreases-loop
+  abbrev start : Start
   start = c.before.before.before
 
   abbrev allocated_codes : Allocated
@@ -57,7 +57,7 @@ chip_is : (c : After-gained-s) → let s = (start c.before).args in (i : ℕ) �
     ≡ burst s.case s.group.0 s.frame s.half s.gp s.gs (s.m * 16 + i)
 chip_is c i h =
     ap₂ (λ p x. part_chip p x i) (stored (p_is c.before.before.before) tt).equal (s_is c)
-    ∙ sym (burst_parts _ i (start c.before).pre h _ _ _ _ _ _)
+    ∙ sym (burst_parts _ i (start c.before).requires h _ _ _ _ _ _)
 
 pub overflow_mul-p : goal.overflow_mul-p
 overflow_mul-p c = fits (p_is c) tt
@@ -77,8 +77,7 @@ part_chip-c-requires c =
 
 pub loop-i-preserved : goal.loop-i-preserved
 loop-i-preserved c =
-    let r = c.part_chip-c in
-    filled_more c.loop-i.invariant (omega arith) r.result (search rules) r.ensures
+    filled_more c.loop-i.invariant (omega arith) c.part_chip-c.result (search rules) c.part_chip-c.ensures
 
 pub returns : goal.returns
 returns c = filled_all c.loop-i.invariant (omega arith) ∙ block_cong _ _ (chip_is (goal.at.returns c).After-gained-s)

@@ -10,13 +10,13 @@ use Rattle.codes.specs.SyncCodes.{a, b}
 use Rattle.codes.proofs.Rows.{row_within, a_test, b_test}
 use Rattle.modulation.proofs.BurstParts.{part_chip_is}
 use Rattle.modulation.proofs.burst.part_chip.Goals as goal
-use Rattle.modulation.proofs.burst.part_chip.Goals.{After-a_sign, After-b_sign-sign}
+use Rattle.modulation.proofs.burst.part_chip.Goals.{After-a_sign, After-b_sign-sign, Start}
 
 u_is : (c : After-a_sign) → Is 65535 (held c.a_sign.result *ℤ held c.args.p) (a at c.args.i *ℤ c.args.p)
 u_is c = times (stored (record { equal = c.a_sign.ensures; size = row_within a a_test _ }) tt) (stored (given c.requires.0) tt)
 
 module _ (c : After-b_sign-sign) where
-  abbrev start : tie.Start
+  abbrev start : Start
   start = c.before.before
 
   -- for either component x of s
@@ -45,4 +45,4 @@ overflow_add-result-2 c = fits (sum (goal.at.overflow_add-result-2 c).After-b_si
 pub returns : goal.returns
 returns c =
     let s = start (goal.at.returns c).After-b_sign-sign in
-    by_components (stored (sum (goal.at.returns c).After-b_sign-sign s.pre.1.re) tt).equal (stored (sum (goal.at.returns c).After-b_sign-sign s.pre.1.im) tt).equal ∙ sym (part_chip_is s.args.p s.args.s s.args.i)
+    by_components (stored (sum (goal.at.returns c).After-b_sign-sign s.requires.1.re) tt).equal (stored (sum (goal.at.returns c).After-b_sign-sign s.requires.1.im) tt).equal ∙ sym (part_chip_is s.args.p s.args.s s.args.i)

@@ -21,11 +21,5 @@ returns c =
     let a = c.args in
     let x = c.summed-x.ensures in
     let y = c.summed-y.ensures in
-    let t = c.scrambled-re.ensures in
-    let u = c.scrambled-im.ensures in
-    let p = c.requires in
-    let x-is : _ ≡ summed_component a.gains.now a.pairs.now a.from true = x.0 ∙ ap (λ (s : List ℤ). listed 16 (summed a.gains.now s)) c.symbols-sre.ensures in
-    let y-is : _ ≡ summed_component a.gains.now a.pairs.now a.from false = y.0 ∙ ap (λ (s : List ℤ). listed 16 (summed a.gains.now s)) c.symbols-sim.ensures in (
-      λ j. record { re = (t ∙ ap₂ (λ (y x : List ℤ). listed 16 (scrambled a.tre.now y x)) y-is x-is) j; im = (u ∙ ap₂ (λ (x y : List ℤ). listed 16 (scrambled a.tim.now x y)) x-is y-is) j },
-      (scrambled_bound p.2 y.1 x.1 t, scrambled_bound p.3 x.1 y.1 u),
-    )
+    let x-is : _ ≡ summed_component a.gains.now a.pairs.now a.from true = c.summed-x.ensures.entries ∙ ap (λ (s : List ℤ). listed 16 (summed a.gains.now s)) c.symbols-sre.ensures in
+    let y-is : _ ≡ summed_component a.gains.now a.pairs.now a.from false = c.summed-y.ensures.entries ∙ ap (λ (s : List ℤ). listed 16 (summed a.gains.now s)) c.symbols-sim.ensures in record { chips = λ j. record { re = (c.scrambled-re.ensures ∙ ap₂ (λ (y x : List ℤ). listed 16 (scrambled a.tre.now y x)) y-is x-is) j; im = (c.scrambled-im.ensures ∙ ap₂ (λ (x y : List ℤ). listed 16 (scrambled a.tim.now x y)) x-is y-is) j }; size = (scrambled_bound c.requires.2 c.summed-y.ensures.size c.summed-x.ensures.size c.scrambled-re.ensures, scrambled_bound c.requires.3 c.summed-x.ensures.size c.summed-y.ensures.size c.scrambled-im.ensures) }

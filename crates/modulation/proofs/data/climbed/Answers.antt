@@ -6,25 +6,16 @@ use Rattle.modulation.proofs.Levels.{raised_bound, nothing_added, round_with_own
 use Rattle.modulation.proofs.data.climbed.Goals as goal
 
 pub raised-y-requires : goal.raised-y-requires
-raised-y-requires c = let p = c.requires in (p.0, p.3)
+raised-y-requires c = (c.requires.0, c.requires.3)
 
 pub with_own-y-requires : goal.with_own-y-requires
 with_own-y-requires c =
-    let r = c.raised-y in
-    let p = c.requires in
-    (p.0, p.2, raised_bound p.3 _ r.ensures)
+    (c.requires.0, c.requires.2, raised_bound c.requires.3 _ c.raised-y.ensures)
 
 pub returns-then-any_open : goal.returns-then-any_open
 returns-then-any_open c =
-    let r = c.raised-y in (
-      c.with_own-y.ensures.0 ∙ round_with_own _ _ _ _ _ r.ensures,
-      λ k m h. c.with_own-y.ensures.1 _ (omega arith) (raised_bound h _ r.ensures),
-    )
+    record { entries = c.with_own-y.ensures.entries ∙ round_with_own _ _ _ _ _ c.raised-y.ensures; size = λ k m h. c.with_own-y.ensures.size _ (omega arith) (raised_bound h _ c.raised-y.ensures) }
 
 pub returns-else-any_open : goal.returns-else-any_open
 returns-else-any_open c =
-    let r = c.raised-y in
-    let p = c.requires in (
-      r.ensures ∙ nothing_added _ _ _ _ p.0 (sym p.1 ∙ c.if-any_open.false),
-      λ k m h. bound_more (raised_bound h _ r.ensures) _ (omega arith),
-    )
+    record { entries = c.raised-y.ensures ∙ nothing_added _ _ _ _ c.requires.0 (sym c.requires.1 ∙ c.if-any_open.false); size = λ k m h. bound_more (raised_bound h _ c.raised-y.ensures) _ (omega arith) }

@@ -10,12 +10,11 @@ pub loop-i-init : goal.loop-i-init
 loop-i-init c = row_none
 
 pub raised_entry-requires : goal.raised_entry-requires
-raised_entry-requires c = let p = c.requires in (p.0, omega arith, p.1)
+raised_entry-requires c = (c.requires.0, omega arith, c.requires.1)
 
 pub loop-i-preserved : goal.loop-i-preserved
 loop-i-preserved c =
-    let r = c.raised_entry in
-    row_more c.loop-i.invariant (omega arith) (search rules) r.ensures
+    row_more c.loop-i.invariant (omega arith) (search rules) c.raised_entry.ensures
 
 pub returns : goal.returns
 returns c = row_all c.loop-i.invariant (omega arith)

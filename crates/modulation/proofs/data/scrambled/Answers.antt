@@ -10,12 +10,11 @@ pub loop-i-init : goal.loop-i-init
 loop-i-init c = row_none
 
 pub scrambled_entry-requires : goal.scrambled_entry-requires
-scrambled_entry-requires c = let p = c.requires in (omega arith, p.0, p.1, p.2)
+scrambled_entry-requires c = (omega arith, c.requires.0, c.requires.1, c.requires.2)
 
 pub loop-i-preserved : goal.loop-i-preserved
 loop-i-preserved c =
-    let r = c.scrambled_entry in
-    row_more c.loop-i.invariant (omega arith) (search rules) r.ensures
+    row_more c.loop-i.invariant (omega arith) (search rules) c.scrambled_entry.ensures
 
 pub returns : goal.returns
 returns c = row_all c.loop-i.invariant (omega arith)

@@ -22,10 +22,10 @@ held x i = to_z w32 (of_z w32 (get_or x i (pos 0)))
 -- entries i of t and of a row x
 module _ {t x : List ℤ} (h : Bound 1 t) (g : Bound 2031585 x) (i : ℕ) where
   sign_is : held t i ≡ get_or t i (pos 0)
-  sign_is = to_z-of_z (fits_within (h.at i) tt)
+  sign_is = to_z-of_z {w = w32} (fits_within (h.at i) tt)
 
   value_is : held x i ≡ get_or x i (pos 0)
-  value_is = to_z-of_z (fits_within (g.at i) tt)
+  value_is = to_z-of_z {w = w32} (fits_within (g.at i) tt)
 
   asks : Within 1 (held t i) × Within 2031585 (held x i)
   asks = (rw sign_is (h.at i), rw value_is (g.at i))
@@ -39,7 +39,7 @@ module _ (s : Start) where
   Asked x = Within 1 (held s.args.t.now s.args.i) × Within 2031585 (held x s.args.i)
 
   both_asks : Asked s.args.even.now × Asked s.args.odd.now
-  both_asks = (asks s.pre.1 s.pre.2 _, asks s.pre.1 s.pre.3 _)
+  both_asks = (asks s.requires.1 s.requires.2 _, asks s.requires.1 s.requires.3 _)
 
 pub signed-requires : goal.signed-requires
 signed-requires c = let a = both_asks (goal.at.signed-requires c).Start in (search rules, search rules)
@@ -49,12 +49,10 @@ signed-requires-else-i-eq0 c = let a = both_asks (goal.at.signed-requires-else-i
 
 pub returns-then-i-eq0 : goal.returns-then-i-eq0
 returns-then-i-eq0 c =
-    let p = c.requires in
     let f : SFits w32 c.signed.result = search rules in
-    rw (eq-eqb _ _ c.if-i-eq0.true) (gives p.1 p.2 _ f c.signed.ensures)
+    rw (eq-eqb _ _ c.if-i-eq0.true) (gives c.requires.1 c.requires.2 _ f c.signed.ensures)
 
 pub returns-else-i-eq0 : goal.returns-else-i-eq0
 returns-else-i-eq0 c =
-    let p = c.requires in
     let f : SFits w32 c.signed-else-i-eq0.result = search rules in
-    rw (ne_eqb _ _ c.if-i-eq0.false) (gives p.1 p.3 _ f c.signed-else-i-eq0.ensures)
+    rw (ne_eqb _ _ c.if-i-eq0.false) (gives c.requires.1 c.requires.3 _ f c.signed-else-i-eq0.ensures)

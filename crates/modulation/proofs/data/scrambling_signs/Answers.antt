@@ -28,7 +28,7 @@ module _ (c : After-sign-v) where
   small = subst (Within 1) (sym c.sign-v.ensures) (v_within _ _)
 
   sign_is : to_z w32 (of_z w32 c.sign-v.result) ≡ sign_at
-  sign_is = to_z-of_z (fits_within small tt) ∙ c.sign-v.ensures
+  sign_is = to_z-of_z {w = w32} (fits_within small tt) ∙ c.sign-v.ensures
 
 pub loop-i-init : goal.loop-i-init
 loop-i-init c = filled_none

@@ -21,10 +21,10 @@ module _ (c : Start) where
 
   -- the two entries, as the locals hold them
   first_is : to_z w32 (of_z w32 x₁) ≡ x₁
-  first_is = to_z-of_z (fits_within (c.requires.1.at _) tt)
+  first_is = to_z-of_z {w = w32} (fits_within (c.requires.1.at _) tt)
 
   second_is : to_z w32 (of_z w32 x₂) ≡ x₂
-  second_is = to_z-of_z (fits_within (c.requires.1.at _) tt)
+  second_is = to_z-of_z {w = w32} (fits_within (c.requires.1.at _) tt)
 
   sum : SFits w32 (x₁ +ℤ x₂)
   sum = fits_within (within_add (c.requires.1.at _) (c.requires.1.at _)) tt

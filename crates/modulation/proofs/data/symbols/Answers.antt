@@ -15,8 +15,7 @@ loop-i-init c = row_none
 
 pub loop-i-preserved : goal.loop-i-preserved
 loop-i-preserved c =
-    let y = c.symbol.ensures in
-    row_more c.loop-i.invariant (omega arith) (search rules) (c.component.ensures ∙ ap (λ (z : Complex). component z c.args.real) y)
+    row_more c.loop-i.invariant (omega arith) (search rules) (c.component.ensures ∙ ap (λ (z : Complex). component z c.args.real) c.symbol.ensures)
 
 pub returns : goal.returns
 returns c = row_all c.loop-i.invariant (omega arith)

@@ -26,10 +26,10 @@ module _ (c : In-loop-i) where
   symbol = get_or c.args.s.now c.loop-i.i (pos 0)
 
   entry_is : to_z w32 (of_z w32 entry) ≡ entry
-  entry_is = to_z-of_z (fits_within (c.requires.2.at _) tt)
+  entry_is = to_z-of_z {w = w32} (fits_within (c.requires.2.at _) tt)
 
   symbol_is : to_z w32 (of_z w32 symbol) ≡ symbol
-  symbol_is = to_z-of_z (fits_within (c.requires.1.at _) tt)
+  symbol_is = to_z-of_z {w = w32} (fits_within (c.requires.1.at _) tt)
 
 pub loop-i-init : goal.loop-i-init
 loop-i-init c = (row_none, λ k m h. bound_zeros _)
@@ -39,20 +39,18 @@ gain_at-requires c = (c.requires.0, omega arith)
 
 pub plus_gain-requires : goal.plus_gain-requires
 plus_gain-requires c =
-    let p = c.requires in
-    (rw (entry_is (goal.at.plus_gain-requires c).In-loop-i) (p.2.at _), rw (symbol_is (goal.at.plus_gain-requires c).In-loop-i) (p.1.at _))
+    (rw (entry_is (goal.at.plus_gain-requires c).In-loop-i) (c.requires.2.at _), rw (symbol_is (goal.at.plus_gain-requires c).In-loop-i) (c.requires.1.at _))
 
 pub loop-i-preserved : goal.loop-i-preserved
 loop-i-preserved c =
     let a = c.args in
     let i = c.loop-i.i in
-    let g = c.gain_at in
-    let n : g.result ≤ 65535 = omega arith in
+    let n : c.gain_at.result ≤ 65535 = omega arith in
     let f : SFits w32 c.plus_gain.result = search rules in
-    let e = with_own_is a.gains.now a.s.now a.x.now a.q i c.plus_gain.ensures (entry_is (goal.at.loop-i-preserved c).In-loop-i) g.ensures (symbol_is (goal.at.loop-i-preserved c).In-loop-i) in (
+    let e = with_own_is a.gains.now a.s.now a.x.now a.q i c.plus_gain.ensures (entry_is (goal.at.loop-i-preserved c).In-loop-i) c.gain_at.ensures (symbol_is (goal.at.loop-i-preserved c).In-loop-i) in (
       row_more c.loop-i.invariant.0 (omega arith) f e,
-      λ k m h. bound_set (c.loop-i.invariant.1 k m h) i (rw (to_z-of_z f, e) (with_own_within h _ _ _ _ (rw g.ensures at n) (c.requires.1.at _))),
+      λ k m h. bound_set (c.loop-i.invariant.1 k m h) i (rw (to_z-of_z f, e) (with_own_within h _ _ _ _ (rw c.gain_at.ensures at n) (c.requires.1.at _))),
     )
 
 pub returns : goal.returns
-returns c = (row_all c.loop-i.invariant.0 (omega arith), c.loop-i.invariant.1)
+returns c = record { entries = row_all c.loop-i.invariant.0 (omega arith); size = c.loop-i.invariant.1 }
