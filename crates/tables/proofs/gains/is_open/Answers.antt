@@ -1,0 +1,6 @@
+-- `is_open` meets its contract. Assumes nothing.
+use borrow.Author.Rules.{rules}
+use Rattle.tables.proofs.gains.is_open.Goals as goal
+
+pub returns : goal.returns
+returns c = rw c.node.ensures.0

@@ -1,0 +1,23 @@
+use mathlib.Core.Path.{◌≡◌}
+use mathlib.Core.Bool.{Bool, false, cond}
+use mathlib.Core.List.{List}
+use Prim.Native.Nat.{ℕ, ◌+◌, ◌*◌, ◌-◌, ◌%◌, ◌≤◌}
+use native.Mathlib.Nat.{add-zero}
+use native.Mathlib.Omega.{arith}
+use borrow.Author.Rules.{rules}
+use lib.ListN.{length, get_or, length-set}
+use Rattle.tables.specs.PairChanges.{cleared}
+use Rattle.tables.proofs.Entries.{Became, passed, all_entries, none_passed, one_more_passed, all_passed}
+use Rattle.tables.proofs.pairs.clear_leaves.Given as goal
+
+-- an entry after the pass
+abbrev pub kept : List Bool → ℕ → ℕ → ℕ
+kept leaves i x = cond (get_or leaves (i % 16) false) 0 x
+
+abbrev pub invariant-loop-i : goal.invariant-loop-i
+invariant-loop-i l = (l.i ≤ 16) × (length l.all ≡ 2208)
+    × ((old : List ℕ) → Became (passed (kept l.leaves) (16 * l.m)) old l.initial.all → Became (passed (kept l.leaves) (16 * l.m + l.i)) old l.all)
+
+abbrev pub invariant-loop-m : goal.invariant-loop-m
+invariant-loop-m l = (l.m ≤ 138) × (length l.all ≡ 2208) × Became (passed (kept l.leaves) (16 * l.m)) l.initial.all l.all
+-- LOOPS [[["loop2", "loop-i"], ["leaves", "all", "m", "i"]], [["loop", "loop-m"], ["leaves", "all", "m"]]]

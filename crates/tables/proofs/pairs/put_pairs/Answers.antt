@@ -1,0 +1,25 @@
+-- `put_pairs` meets its contract. The loop's invariant: the first i entries of the part are written. Assumes nothing.
+use mathlib.Core.Path.{◌≡◌}
+use Prim.Native.Nat.{◌+◌, ◌-◌, ◌≤◌}
+use native.Mathlib.Omega.{arith}
+use borrow.Author.Rules.{rules}
+use lib.ListN.{length, length-set}
+use Rattle.modulation.specs.Symbols.{pair}
+use Rattle.tables.specs.PairChanges.{with_part}
+use Rattle.tables.proofs.Entries.{Became, part, all_entries, no_part, one_more_in_part}
+use Rattle.tables.proofs.pairs.put_pairs.Goals as goal
+
+pub loop-i-init : goal.loop-i-init
+loop-i-init c = (omega arith, c.all-1.given.0.1, no_part _ _ _)
+
+pub loop-i-preserved : goal.loop-i-preserved
+loop-i-preserved c =
+    let l = c.loop-i in
+    (omega arith, simp length-set l.invariant.1, rw c.pair.ensures (one_more_in_part _ _ l.i (omega arith) l.invariant.2))
+
+pub returns : goal.returns
+unfolding with_part part
+returns c =
+    let l = c.loop-i in
+    let e : l.i ≡ c.args.w = omega arith in
+    all_entries l.invariant.1 (rw e at l.invariant.2)
