@@ -7,3 +7,4 @@ pub mod Places
 pub mod Viewed
 pub mod FieldBlocks
 pub mod Halves
+pub mod Written

@@ -9,7 +9,7 @@ pub mod parts;
 
 // A sync burst's settings; `on` is 0 where none is sent. Its code group is the cell's.
 #[repr(C)]
-#[derive(Drop)]
+#[derive(Clone, Copy)]
 pub struct Sync {
     pub on: u8,
     pub case: u32,
