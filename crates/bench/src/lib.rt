@@ -42,7 +42,7 @@ pub struct Answered {
 
 // A record of a plan: code (q, k) with its gain.
 #[repr(C)]
-#[derive(Drop)]
+#[derive(Clone, Copy)]
 pub struct Channel {
     pub q: u32,
     pub k: u32,

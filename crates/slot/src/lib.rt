@@ -22,7 +22,7 @@ pub struct Sync {
 // The settings of a slot. `gains` has one entry a code: code (q, k) at q - 1 + k, 0 where it is not open. `pairs` has one entry, 0 to 3, for
 // each pair of bits, block by block of 16 chips, both fields in a row: in a block code (q, k) owns 16/q entries from k 16/q on.
 #[repr(C)]
-#[derive(Drop)]
+#[derive(Clone, Copy)]
 pub struct Settings {
     pub cell: CellParameter,
     pub kind: u32,
