@@ -2,4 +2,3 @@ pub mod Opened
 pub mod Accepted
 pub mod Loading
 pub mod Plans
-pub mod Walks

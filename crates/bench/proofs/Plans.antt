@@ -3,13 +3,13 @@ use mathlib.Core.Path.{◌≡◌, refl, sym, ap, ◌∙◌}
 use mathlib.Core.Logic.{◌≢◌}
 use mathlib.Core.Bool.{Bool, not}
 use mathlib.Core.List.{List, [], ◌∷◌}
-use Prim.Native.Nat.{ℕ, suc, ◌+◌, ◌<◌, min}
+use Prim.Native.Nat.{ℕ, suc, ◌+◌, ◌<◌, ◌≤◌, min}
 use native.Mathlib.Decide.{ℕ_discrete}
 use native.Mathlib.Numerals.{add-one}
 use native.Mathlib.Omega.{arith}
 use borrow.Author.Tests.{eq-eqb, ne_eqb}
 use lib.Dec.{leb}
-use lib.ListN.{length, get_or, take, drop, replicate, length-set, length-take}
+use lib.ListN.{length, get_or, take, drop, replicate, length-set, length-take, drop_of_length-le}
 use lib.Seq.{drop-cons, take-length, take-take}
 use Rattle.codes.specs.Range.{any}
 use Rattle.codes.specs.Refusals.{Answer, gives, refused, Refusal, ◌if◌, ◌otherwise◌, refusal_number}
@@ -120,15 +120,19 @@ unfolding with_open_cleared any is_leaf_open
 plan_settled b plan = walked_in_order b (replicate 31 0) refl 0 plan
 
 -- ---- the walk along the list
--- what `get_or` gives past the end
-abbrev pub no_record : Channel
-no_record = record { q = 0; k = 0; gain = 0 }
-
 -- the record at i, then those after it, are those from i on
-pub one_more : (t : Taken) (ys : List Channel) (i : ℕ) {r : Taken} → i < length ys → r ≡ with_record t i (get_or ys i no_record)
+pub one_more : (t : Taken) (ys : List Channel) (i : ℕ) (d : Channel) {r : Taken} → i < length ys → r ≡ with_record t i (get_or ys i d)
     → with_records r (i + 1) (drop (i + 1) ys) ≡ with_records t i (drop i ys)
 unfolding with_records
-one_more t ys i l e = rw (add-one i, e, drop-cons ys i no_record l)
+one_more t ys i d l e = rw (add-one i, e, drop-cons ys i d l)
+
+-- after the last record, what was taken settles to load plan
+pub all_taken : (b : Bench) (t : Taken) (ys : List Channel) (i : ℕ) → length ys ≤ i → with_records t i (drop i ys) ≡ with_records none_taken 0 ys
+    → settled b t ≡ load_plan_call b ys
+unfolding with_records
+all_taken b t ys i l e =
+    let ends : with_records t i (drop i ys) ≡ t = rw (drop_of_length-le ys {i = i} l) in
+    ap (settled b) (sym ends ∙ e) ∙ plan_settled b ys
 
 -- up to the smaller of a count and their number, they are those up to the count
 pub up_to_smaller : (count : ℕ) (ys : List Channel) {n m : ℕ} → n ≡ min count m → length ys ≡ m → take n ys ≡ take count ys
