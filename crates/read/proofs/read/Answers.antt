@@ -3,7 +3,6 @@ use mathlib.Core.Path.{◌≡◌, sym, ap, ◌∙◌}
 use mathlib.Core.Bool.{◌||◌, not}
 use mathlib.Core.List.{List}
 use Prim.Native.Nat.{ℕ, ◌/◌, ◌%◌}
-use borrow.Author.Rules.{rules}
 use borrow.Author.Tests.{eqb-true, leb-false, ltb-false, not-false}
 use lib.Dec.{eqb, ltb}
 use lib.IntN.{ℤ}
@@ -45,7 +44,8 @@ all-requires c =
     let whole = neither (eqb n 0 || ltb longest_field n) (not (eqb (n % 16) 0)) f.1.0 in
     let field = whole.0 in
     let inside = neither (outside s.re.now) (outside s.im.now) f.1.1.0 in
-    let room = neither (ltb (length s.outre.now) (n / s.q)) (ltb (length s.outim.now) (n / s.q)) f.1.1.1.0 in record { cell_bound = (
+    let room = neither (ltb (length s.outre.now) (n / s.q)) (ltb (length s.outim.now) (n / s.q)) f.1.1.1.0 in record {
+      cell_bound = (
         leb-false 128 s.cell.0 t.0,
         not-false (is_spreading_factor s.q) p.0,
         leb-false s.q s.k p.1.0,
@@ -54,7 +54,9 @@ all-requires c =
         eqb-true (n % 16) 0 (not-false (eqb (n % 16) 0) whole.1),
         ltb-false (length s.outre.now) (n / s.q) room.0,
         ltb-false (length s.outim.now) (n / s.q) room.1,
-      ); bound = (not_outside s.re.now inside.0, not_outside s.im.now inside.1) }
+      );
+      bound = (not_outside s.re.now inside.0, not_outside s.im.now inside.1);
+    }
 
 pub returns : goal.returns
 unfolding numbered

@@ -1,7 +1,7 @@
 -- `all` meets its contract. The loop's invariant: the products passed are written. Assumes nothing.
 use mathlib.Core.Path.{◌≡◌, refl, sym, ap, ◌∙◌}
 use mathlib.Core.List.{List}
-use Prim.Native.Nat.{ℕ, ◌+◌, ◌*◌, ◌%◌, ◌≤◌, ◌-◌}
+use Prim.Native.Nat.{ℕ, ◌+◌, ◌*◌, ◌%◌}
 use native.Mathlib.Omega.{arith}
 use lib.IntN.{ℤ}
 use lib.ListN.{length}
@@ -25,14 +25,13 @@ unfolding listed
 loop-m-init c = (omega arith, refl, refl, refl, refl)
 
 pub sixteen_products-b-requires : goal.sixteen_products-b-requires
-sixteen_products-b-requires c =
-    (
-      omega arith,
-      omega arith,
-      powers_of_j c.args.cell.0 c.args.k c.requires.cell_bound.0 c.requires.cell_bound.1 c.multipliers-w.ensures.0 c.multipliers-w.ensures.1,
-      c.requires.bound.0,
-      c.requires.bound.1,
-    )
+sixteen_products-b-requires c = (
+  omega arith,
+  omega arith,
+  powers_of_j c.args.cell.0 c.args.k c.requires.cell_bound.0 c.requires.cell_bound.1 c.multipliers-w.ensures.0 c.multipliers-w.ensures.1,
+  c.requires.bound.0,
+  c.requires.bound.1,
+)
 
 pub loop-m-preserved : goal.loop-m-preserved
 loop-m-preserved c =

@@ -1,14 +1,8 @@
-use mathlib.Core.Path.{◌≡◌, refl, sym, ap, ◌∙◌}
-use mathlib.Core.List.{List}
-use Prim.Native.Nat.{ℕ, ◌+◌, ◌*◌, ◌%◌, ◌≤◌, ◌-◌}
-use native.Mathlib.Omega.{arith}
-use lib.IntN.{ℤ}
+use mathlib.Core.Path.{◌≡◌}
+use Prim.Native.Nat.{◌*◌, ◌%◌, ◌≤◌}
 use lib.ListN.{length}
-use Rattle.complex.specs.declared.Complex.{Complex}
 use Rattle.complex.specs.Arithmetic.{◌⊗◌}
 use Rattle.complex.specs.Buffers.{listed, value, written}
-use Rattle.complex.proofs.Lists.{listed_cong}
-use Rattle.read.proofs.PowersOfJ.{powers_of_j, reading_one}
 use Rattle.read.proofs.one.all.Given as goal
 
 abbrev pub invariant-loop-m : goal.invariant-loop-m

@@ -1,15 +1,9 @@
-use mathlib.Core.Path.{◌≡◌, refl, ap, ◌∙◌}
+use mathlib.Core.Path.{◌≡◌}
 use mathlib.Core.List.{List}
-use Prim.Native.Nat.{ℕ, ◌+◌, ◌≤◌, ◌<◌, ◌-◌}
-use native.Mathlib.Omega.{arith}
-use borrow.Author.Rules.{rules}
-use lib.IntN.{ℤ, pos}
-use lib.ListN.{length, get_or, set, length-set}
-use mir.Syntax.{w32}
-use mir.Val.{SFits}
-use mir.Facts.{to_z-of_z}
+use Prim.Native.Nat.{ℕ, ◌+◌, ◌≤◌}
+use lib.IntN.{ℤ}
+use lib.ListN.{length}
 use Rattle.complex.specs.Buffers.{listed, written}
-use Rattle.complex.proofs.Lists.{one_more_written, listed_at}
 use Rattle.read.proofs.one.put.Given as goal
 
 abbrev pub invariant-loop-i : goal.invariant-loop-i

@@ -1,7 +1,7 @@
 -- `sixteen_products` meets its contract. The loop's invariant: the first i products are written. Assumes nothing.
 use mathlib.Core.Path.{◌≡◌, refl, ap, ap₂, ◌∙◌}
 use mathlib.Core.List.{List}
-use Prim.Native.Nat.{◌+◌, ◌≤◌, ◌<◌, ◌-◌}
+use Prim.Native.Nat.{ℕ, ◌<◌}
 use native.Mathlib.Omega.{arith}
 use borrow.Author.Rules.{rules}
 use lib.IntN.{ℤ, pos}
@@ -11,18 +11,23 @@ use mir.Val.{SFits}
 use mir.Facts.{to_z-of_z}
 use Rattle.complex.specs.declared.Complex.{Complex}
 use Rattle.complex.specs.Arithmetic.{◌⊗◌}
-use Rattle.complex.specs.Buffers.{listed, value, written}
+use Rattle.complex.specs.Buffers.{listed, value}
 use Rattle.complex.proofs.Bounds.{value_both}
 use Rattle.complex.proofs.Lists.{one_more_written}
+use Rattle.read.specs.Multipliers.{PowerOfJ, PowersOfJ}
 use Rattle.read.proofs.one.sixteen_products.Goals as goal
 
 pub loop-i-init : goal.loop-i-init
 unfolding listed
 loop-i-init c = (omega arith, refl, refl)
 
+-- a multiplier of the sixteen
+power : {wre wim : List ℤ} {w : Complex} {i : ℕ} → PowersOfJ wre wim → w ≡ value wre wim i → i < 16 → PowerOfJ w
+power h e l = rw e (h.each _ l)
+
 pub product-z-requires : goal.product-z-requires
 product-z-requires c =
-    (rw c.value_at-in-loop-i.ensures (c.requires.2.each c.loop-i.i (omega arith)), rw c.value_at.ensures (value_both c.requires.3 c.requires.4 _))
+    (power c.requires.2 c.value_at-in-loop-i.ensures (omega arith), rw c.value_at.ensures (value_both c.requires.3 c.requires.4 _))
 
 pub loop-i-preserved : goal.loop-i-preserved
 loop-i-preserved c =

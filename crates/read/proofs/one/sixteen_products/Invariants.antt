@@ -1,18 +1,7 @@
-use mathlib.Core.Path.{◌≡◌, refl, ap, ap₂, ◌∙◌}
-use mathlib.Core.List.{List}
-use Prim.Native.Nat.{◌+◌, ◌≤◌, ◌<◌, ◌-◌}
-use native.Mathlib.Omega.{arith}
-use borrow.Author.Rules.{rules}
-use lib.IntN.{ℤ, pos}
-use lib.ListN.{length, set, replicate}
-use mir.Syntax.{w32}
-use mir.Val.{SFits}
-use mir.Facts.{to_z-of_z}
-use Rattle.complex.specs.declared.Complex.{Complex}
+use mathlib.Core.Path.{◌≡◌}
+use Prim.Native.Nat.{◌+◌, ◌≤◌}
 use Rattle.complex.specs.Arithmetic.{◌⊗◌}
 use Rattle.complex.specs.Buffers.{listed, value, written}
-use Rattle.complex.proofs.Bounds.{value_both}
-use Rattle.complex.proofs.Lists.{one_more_written}
 use Rattle.read.proofs.one.sixteen_products.Given as goal
 
 abbrev pub invariant-loop-i : goal.invariant-loop-i

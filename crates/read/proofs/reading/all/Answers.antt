@@ -2,11 +2,9 @@
 use mathlib.Core.Path.{◌≡◌, sym, ap, ◌∙◌}
 use Prim.Native.Nat.{ℕ, ◌/◌}
 use native.Mathlib.Omega.{arith}
-use borrow.Author.Rules.{rules}
 use lib.ListN.{length}
 use Rattle.complex.specs.Buffers.{listed, value, written}
 use Rattle.read.specs.Reading.{reading}
-
 use Rattle.read.proofs.reading.all.Goals as goal
 
 -- one reading for each chip
@@ -31,11 +29,14 @@ returns-in-1 c =
     let e = sym c.in-1.is in
     let r = c.all.ensures in
     let n = length s.re.now in
-    let chip = value s.re.now s.im.now in record { real = r.real
+    let chip = value s.re.now s.im.now in record {
+      real = r.real
           ∙ ap (λ (m : ℕ). written (listed m (λ i. (reading s.cell.0 1 s.k chip i).re)) s.outre.now) (over_1 n)
-          ∙ ap (λ (q : ℕ). written (listed (n / q) (λ i. (reading s.cell.0 q s.k chip i).re)) s.outre.now) e; imaginary = r.imaginary
+          ∙ ap (λ (q : ℕ). written (listed (n / q) (λ i. (reading s.cell.0 q s.k chip i).re)) s.outre.now) e;
+      imaginary = r.imaginary
           ∙ ap (λ (m : ℕ). written (listed m (λ i. (reading s.cell.0 1 s.k chip i).im)) s.outim.now) (over_1 n)
-          ∙ ap (λ (q : ℕ). written (listed (n / q) (λ i. (reading s.cell.0 q s.k chip i).im)) s.outim.now) e }
+          ∙ ap (λ (q : ℕ). written (listed (n / q) (λ i. (reading s.cell.0 q s.k chip i).im)) s.outim.now) e;
+    }
 
 pub returns-in-16 : goal.returns-in-16
 returns-in-16 c =

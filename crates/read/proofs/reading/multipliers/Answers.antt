@@ -1,7 +1,7 @@
 -- `multipliers` meets its contract. The loop's invariant: the first i entries of both arrays are written. Assumes nothing.
 use mathlib.Core.Path.{◌≡◌, refl, ap, ◌∙◌}
 use mathlib.Core.List.{List}
-use Prim.Native.Nat.{◌≤◌, ◌<◌, ◌-◌}
+use Prim.Native.Nat.{◌<◌}
 use native.Mathlib.Omega.{arith}
 use borrow.Author.Rules.{rules}
 use lib.IntN.{ℤ, pos}
@@ -10,7 +10,7 @@ use mir.Syntax.{w32}
 use mir.Val.{SFits}
 use mir.Facts.{to_z-of_z}
 use Rattle.complex.specs.declared.Complex.{Complex}
-use Rattle.complex.specs.Buffers.{listed, written}
+use Rattle.complex.specs.Buffers.{listed}
 use Rattle.complex.proofs.Lists.{one_more_written}
 use Rattle.read.specs.Multipliers.{multiplier}
 use Rattle.read.proofs.reading.multipliers.Goals as goal

@@ -1,16 +1,6 @@
-use mathlib.Core.Path.{◌≡◌, refl, ap, ◌∙◌}
-use mathlib.Core.List.{List}
-use Prim.Native.Nat.{◌≤◌, ◌<◌, ◌-◌}
-use native.Mathlib.Omega.{arith}
-use borrow.Author.Rules.{rules}
-use lib.IntN.{ℤ, pos}
-use lib.ListN.{length, set, replicate}
-use mir.Syntax.{w32}
-use mir.Val.{SFits}
-use mir.Facts.{to_z-of_z}
-use Rattle.complex.specs.declared.Complex.{Complex}
+use mathlib.Core.Path.{◌≡◌}
+use Prim.Native.Nat.{◌≤◌}
 use Rattle.complex.specs.Buffers.{listed, written}
-use Rattle.complex.proofs.Lists.{one_more_written}
 use Rattle.read.specs.Multipliers.{multiplier}
 use Rattle.read.proofs.reading.multipliers.Given as goal
 

@@ -1,10 +1,7 @@
 -- `reading` meets its contract. The loop's invariant: `sum` is the sum of the chips passed, each with its multiplier. Assumes nothing.
 use mathlib.Core.Path.{◌≡◌, refl, sym, ap₂, ◌∙◌}
-use Prim.Native.Nat.{◌≤◌, ◌-◌}
 use native.Mathlib.Omega.{arith}
-use borrow.Author.Rules.{rules}
 use Rattle.complex.specs.Arithmetic.{𝟎, ◌⊕◌, ◌⊗◌, Σ<}
-use Rattle.complex.specs.Buffers.{value}
 use Rattle.complex.specs.Fits.{Both}
 use Rattle.complex.proofs.Bounds.{value_both}
 use Rattle.complex.proofs.Components.{both-⊕, both-⊗, both_fits, product_fits}

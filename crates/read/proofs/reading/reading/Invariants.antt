@@ -1,14 +1,7 @@
-use mathlib.Core.Path.{◌≡◌, refl, sym, ap₂, ◌∙◌}
-use Prim.Native.Nat.{◌≤◌, ◌-◌}
-use native.Mathlib.Omega.{arith}
-use borrow.Author.Rules.{rules}
-use Rattle.complex.specs.Arithmetic.{𝟎, ◌⊕◌, ◌⊗◌, Σ<}
+use mathlib.Core.Path.{◌≡◌}
+use Prim.Native.Nat.{◌≤◌}
 use Rattle.complex.specs.Buffers.{value}
-use Rattle.complex.specs.Fits.{Both}
-use Rattle.complex.proofs.Components.{both-⊕, both-⊗, both_fits, product_fits}
-use Rattle.complex.proofs.Sums.{Σ_more}
 use Rattle.read.specs.Multipliers.{multiplied_sum}
-use Rattle.read.proofs.Readings.{multiplied_sum_both}
 use Rattle.read.proofs.reading.reading.Given as goal
 
 abbrev pub invariant-loop-i : goal.invariant-loop-i

@@ -1,7 +1,6 @@
 -- `refusal` meets its contract: the tests in document 01's order. Assumes nothing.
 use mathlib.Core.Path.{◌≡◌, sym, ◌∙◌}
 use mathlib.Core.Bool.{true}
-use borrow.Author.Rules.{rules}
 use borrow.Author.Tests.{le-leb, lt-leb, eq-eqb, ne_eqb}
 use mathlib.Core.List.{List}
 use lib.ListN.{length, drop}

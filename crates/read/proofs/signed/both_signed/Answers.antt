@@ -6,7 +6,6 @@ use mir.Syntax.{w32}
 use mir.Val.{SFits}
 use mir.Facts.{to_z-of_z}
 use Rattle.complex.proofs.Ring.{by_components}
-use Rattle.complex.proofs.Sizes.{fits_within}
 use Rattle.read.proofs.signed.both_signed.Goals as goal
 
 pub returns : goal.returns

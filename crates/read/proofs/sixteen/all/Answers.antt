@@ -2,10 +2,8 @@
 use mathlib.Core.Path.{◌≡◌, refl, sym, ap, ap₂, ◌∙◌, subst}
 use Prim.Native.Nat.{ℕ, ◌*◌, ◌/◌, ◌%◌, ◌<◌}
 use native.Mathlib.Omega.{arith}
-use borrow.Author.Rules.{rules}
 use mathlib.Core.List.{List}
 use lib.IntN.{ℤ}
-use lib.ListN.{length}
 use Rattle.complex.specs.declared.Complex.{Complex}
 use Rattle.complex.specs.Buffers.{listed, value, written, ◌at◌}
 use Rattle.complex.specs.Fits.{Both, Bound}
@@ -18,27 +16,27 @@ use Rattle.read.proofs.sixteen.all.Goals as goal
 
 -- the lanes, where they were put: in the first 4 n entries of u and v
 module _
-  (p k n : ℕ)
-  (s re im u v zu zv : List ℤ)
-  (signs : s ≡ listed 16 (place_sign p k))
-  (hp : p < 128)
-  (hk : k < 16)
-  (fre : Bound 100000 re)
-  (fim : Bound 100000 im)
-  (real : u ≡ written (listed (4 * n) (λ c. (lanes_of (◌at◌ s) (value re im) c).re)) zu)
-  (imaginary : v ≡ written (listed (4 * n) (λ c. (lanes_of (◌at◌ s) (value re im) c).im)) zv)
+    (p k n : ℕ)
+    (s re im u v zu zv : List ℤ)
+    (signs : s ≡ listed 16 (place_sign p k))
+    (hp : p < 128)
+    (hk : k < 16)
+    (fre : Bound 100000 re)
+    (fim : Bound 100000 im)
+    (real : u ≡ written (listed (4 * n) (λ c. (lanes_of (◌at◌ s) (value re im) c).re)) zu)
+    (imaginary : v ≡ written (listed (4 * n) (λ c. (lanes_of (◌at◌ s) (value re im) c).im)) zv)
   where
-  put_is : (c : ℕ) → c < 4 * n → value u v c ≡ lanes_of (◌at◌ s) (value re im) c
-  put_is c l =
-      ap₂ (λ (a b : List ℤ). value a b c) real imaginary ∙ value_written (lanes_of (◌at◌ s) (value re im)) _ _ (4 * n) c l
+    put_is : (c : ℕ) → c < 4 * n → value u v c ≡ lanes_of (◌at◌ s) (value re im) c
+    put_is c l =
+        ap₂ (λ (a b : List ℤ). value a b c) real imaginary ∙ value_written (lanes_of (◌at◌ s) (value re im)) _ _ (4 * n) c l
 
-  put_both : (c : ℕ) → c < 4 * n → Both 400000 (value u v c)
-  put_both c l =
-      subst (Both 400000) (sym (put_is c l))
-      (lane_both (◌at◌ s) (value re im) (signs_are p k signs hp hk).each (value_both fre fim) (16 * (c / 4)) (c % 4) (omega arith))
+    put_both : (c : ℕ) → c < 4 * n → Both 400000 (value u v c)
+    put_both c l =
+        subst (Both 400000) (sym (put_is c l))
+        (lane_both (◌at◌ s) (value re im) (signs_are p k signs hp hk).each (value_both fre fim) (16 * (c / 4)) (c % 4) (omega arith))
 
-  readings : (m : ℕ) → m < n → from_lanes (value u v) m ≡ reading p 16 k (value re im) m
-  readings = readings_are p k signs (value re im) (value u v) n put_is
+    readings : (m : ℕ) → m < n → from_lanes (value u v) m ≡ reading p 16 k (value re im) m
+    readings = readings_are p k signs (value re im) (value u v) n put_is
 
 pub put_all_lanes-requires : goal.put_all_lanes-requires
 put_all_lanes-requires c =

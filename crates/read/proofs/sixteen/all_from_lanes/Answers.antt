@@ -1,16 +1,14 @@
 -- `all_from_lanes` meets its contract. The loop's invariant: the readings passed are written. Assumes nothing.
 use mathlib.Core.Path.{◌≡◌, refl, ap, ◌∙◌}
-use Prim.Native.Nat.{◌+◌, ◌*◌, ◌≤◌, ◌-◌}
 use native.Mathlib.Omega.{arith}
 use borrow.Author.Rules.{rules}
-use lib.ListN.{length, set, length-set}
+use lib.ListN.{set, length-set}
 use mir.Syntax.{w32}
 use mir.Val.{SFits}
 use mir.Facts.{to_z-of_z}
 use Rattle.complex.specs.declared.Complex.{Complex}
-use Rattle.complex.specs.Buffers.{listed, value, written}
+use Rattle.complex.specs.Buffers.{listed}
 use Rattle.complex.proofs.Lists.{one_more_written}
-use Rattle.read.specs.Multipliers.{from_lanes}
 use Rattle.read.proofs.sixteen.all_from_lanes.Goals as goal
 
 pub loop-m-init : goal.loop-m-init
@@ -19,9 +17,8 @@ loop-m-init c = (omega arith, refl, refl, refl, refl)
 
 pub from_lanes-y-requires : goal.from_lanes-y-requires
 from_lanes-y-requires c =
-    let l = c.loop-m in
     let f = c.requires.3 in
-    (omega arith, f (4 * l.m) (omega arith), f (4 * l.m + 1) (omega arith), f (4 * l.m + 2) (omega arith), f (4 * l.m + 3) (omega arith))
+    (omega arith, f _ (omega arith), f _ (omega arith), f _ (omega arith), f _ (omega arith))
 
 pub loop-m-preserved : goal.loop-m-preserved
 loop-m-preserved c =

@@ -1,14 +1,7 @@
-use mathlib.Core.Path.{◌≡◌, refl, ap, ◌∙◌}
-use Prim.Native.Nat.{◌+◌, ◌*◌, ◌≤◌, ◌-◌}
-use native.Mathlib.Omega.{arith}
-use borrow.Author.Rules.{rules}
-use lib.ListN.{length, set, length-set}
-use mir.Syntax.{w32}
-use mir.Val.{SFits}
-use mir.Facts.{to_z-of_z}
-use Rattle.complex.specs.declared.Complex.{Complex}
+use mathlib.Core.Path.{◌≡◌}
+use Prim.Native.Nat.{◌≤◌}
+use lib.ListN.{length}
 use Rattle.complex.specs.Buffers.{listed, value, written}
-use Rattle.complex.proofs.Lists.{one_more_written}
 use Rattle.read.specs.Multipliers.{from_lanes}
 use Rattle.read.proofs.sixteen.all_from_lanes.Given as goal
 

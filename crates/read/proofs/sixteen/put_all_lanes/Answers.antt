@@ -1,12 +1,11 @@
 -- `put_all_lanes` meets its contract. The loop's invariant: the lanes passed are written. Assumes nothing.
 use mathlib.Core.Path.{◌≡◌, refl, ap, ◌∙◌}
 use mathlib.Core.List.{List}
-use Prim.Native.Nat.{ℕ, ◌+◌, ◌*◌, ◌/◌, ◌≤◌, ◌-◌}
+use Prim.Native.Nat.{ℕ, ◌+◌, ◌*◌, ◌/◌}
 use native.Mathlib.Omega.{arith}
 use lib.IntN.{ℤ}
 use lib.ListN.{length}
-use Rattle.complex.specs.Buffers.{listed, value, written, ◌at◌}
-use Rattle.read.specs.Multipliers.{lanes_of}
+use Rattle.complex.specs.Buffers.{listed, written}
 use Rattle.read.proofs.sixteen.put_all_lanes.Goals as goal
 
 next : (f : ℕ → ℤ) (d u : List ℤ) (m : ℕ) → u ≡ written (listed (4 * m + 4) f) d → u ≡ written (listed (4 * (m + 1)) f) d
@@ -21,8 +20,7 @@ put_lanes-requires c = (omega arith, c.requires.0, c.requires.1, c.requires.2, c
 
 pub loop-m-preserved : goal.loop-m-preserved
 loop-m-preserved c =
-    let l = c.loop-m in
-    (
+    let l = c.loop-m in (
       omega arith,
       next _ c.args.u.now _ l.m (c.put_lanes.ensures.real c.args.u.now c.requires.5 l.invariant.1),
       next _ c.args.v.now _ l.m (c.put_lanes.ensures.imaginary c.args.v.now c.requires.6 l.invariant.2),

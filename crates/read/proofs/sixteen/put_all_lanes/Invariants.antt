@@ -1,9 +1,5 @@
-use mathlib.Core.Path.{◌≡◌, refl, ap, ◌∙◌}
-use mathlib.Core.List.{List}
-use Prim.Native.Nat.{ℕ, ◌+◌, ◌*◌, ◌/◌, ◌≤◌, ◌-◌}
-use native.Mathlib.Omega.{arith}
-use lib.IntN.{ℤ}
-use lib.ListN.{length}
+use mathlib.Core.Path.{◌≡◌}
+use Prim.Native.Nat.{◌*◌, ◌≤◌}
 use Rattle.complex.specs.Buffers.{listed, value, written, ◌at◌}
 use Rattle.read.specs.Multipliers.{lanes_of}
 use Rattle.read.proofs.sixteen.put_all_lanes.Given as goal

@@ -1,7 +1,7 @@
 -- `put_lanes` meets its contract. The loop's invariant: l more entries are written. Assumes nothing.
 use mathlib.Core.Path.{◌≡◌, ap, ◌∙◌}
 use mathlib.Core.List.{List}
-use Prim.Native.Nat.{ℕ, ◌+◌, ◌*◌, ◌<◌, ◌≤◌, ◌-◌}
+use Prim.Native.Nat.{ℕ, ◌+◌, ◌*◌, ◌<◌}
 use native.Mathlib.Omega.{arith}
 use borrow.Author.Rules.{rules}
 use lib.IntN.{ℤ}
@@ -12,7 +12,6 @@ use mir.Facts.{to_z-of_z}
 use Rattle.complex.specs.declared.Complex.{Complex}
 use Rattle.complex.specs.Buffers.{listed, value, written, ◌at◌}
 use Rattle.complex.proofs.Lists.{one_more_written}
-use Rattle.read.specs.Multipliers.{lanes_of}
 use Rattle.read.proofs.Lanes.{lanes_at}
 use Rattle.read.proofs.sixteen.put_lanes.Goals as goal
 

@@ -1,18 +1,10 @@
-use mathlib.Core.Path.{◌≡◌, ap, ◌∙◌}
+use mathlib.Core.Path.{◌≡◌}
 use mathlib.Core.List.{List}
-use Prim.Native.Nat.{ℕ, ◌+◌, ◌*◌, ◌<◌, ◌≤◌, ◌-◌}
-use native.Mathlib.Omega.{arith}
-use borrow.Author.Rules.{rules}
+use Prim.Native.Nat.{◌+◌, ◌*◌, ◌≤◌}
 use lib.IntN.{ℤ}
-use lib.ListN.{length, set}
-use mir.Syntax.{w32}
-use mir.Val.{SFits}
-use mir.Facts.{to_z-of_z}
-use Rattle.complex.specs.declared.Complex.{Complex}
+use lib.ListN.{length}
 use Rattle.complex.specs.Buffers.{listed, value, written, ◌at◌}
-use Rattle.complex.proofs.Lists.{one_more_written}
 use Rattle.read.specs.Multipliers.{lanes_of}
-use Rattle.read.proofs.Lanes.{lanes_at}
 use Rattle.read.proofs.sixteen.put_lanes.Given as goal
 
 abbrev pub invariant-loop-l : goal.invariant-loop-l

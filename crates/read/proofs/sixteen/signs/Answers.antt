@@ -1,7 +1,7 @@
 -- `signs` meets its contract. The loop's invariant: the first i signs are written. Assumes nothing.
 use mathlib.Core.Path.{◌≡◌, refl, sym, ap, ◌∙◌}
 use mathlib.Core.List.{List}
-use Prim.Native.Nat.{ℕ, ◌≤◌, ◌<◌, ◌-◌}
+use Prim.Native.Nat.{ℕ, ◌<◌}
 use native.Mathlib.Omega.{arith}
 use borrow.Author.Rules.{rules}
 use lib.IntN.{ℤ, pos, ◌*ℤ◌}
@@ -9,7 +9,7 @@ use lib.ListN.{length, set, replicate}
 use mir.Syntax.{w32}
 use mir.Val.{SFits}
 use mir.Facts.{to_z-of_z}
-use Rattle.complex.specs.Buffers.{listed, written}
+use Rattle.complex.specs.Buffers.{listed}
 use Rattle.complex.proofs.Lists.{one_more_written, listed_cong}
 use Rattle.codes.specs.PackedSigns.{sign_bit, signed_by_j}
 use Rattle.codes.specs.Tree.{element}
