@@ -5,6 +5,7 @@ use mathlib.Core.List.{List, []}
 use lib.IntN.{ℤ}
 use lib.ListN.{length, take}
 use denote.Ref.{Bor}
+use Rattle.std.specs.Borrow.{MutBor}
 use Rattle.complex.specs.Buffers.{Values, written}
 use Rattle.codes.specs.Refusals.{Answer, refused, gives, outcome, after}
 use Rattle.bench.specs.declared.Bench.{Bench}
@@ -66,6 +67,10 @@ sync_case (gives c) = record { case = Burst c; is = refl }
 abbrev lent : {X : Type 0} → X → Bor X
 lent x = record { ref_ptr = (0, 0); now = x }
 
+-- one that may be written to
+abbrev lent_mut : {X : Type 0} → X → MutBor X
+lent_mut x = record { ref_ptr = (0, 0); ghost_name = 0; now = x }
+
 -- ---- one call
 module _ (b : Bench) where
   abbrev result : Answer Bench → Answered
@@ -93,9 +98,9 @@ module _ (b : Bench) where
   can_run (draw re im) =
       let a = draw_call b (length re) (length im) in (
         _,
-        by_draw ([], ([], tt)) (lent re) (lent im)
+        by_draw ([], ([], tt)) (lent_mut re) (lent_mut im)
             (record { answer = (draw_case (draw_outcome a)).case; bench = after a b (λ d. d.bench) })
-            (b, (lent (after a re (λ d. written d.chips.re re)), (lent (after a im (λ d. written d.chips.im im)), tt)))
+            (b, (lent_mut (after a re (λ d. written d.chips.re re)), (lent_mut (after a im (λ d. written d.chips.im im)), tt)))
             ((draw_case (draw_outcome a)).is, (refl, (refl, refl))),
       )
 
@@ -112,8 +117,8 @@ reads_exist p Q k field out =
     let re = after a out.re (λ y. written y.re out.re) in
     let im = after a out.im (λ y. written y.im out.im) in (
       _,
-      by_read ([], ([], ([], ([], tt)))) (lent field.re) (lent field.im) (lent out.re) (lent out.im) (read_case (outcome a)).case
-          (record { 0 = p }, (Q, (k, (lent field.re, (lent field.im, (lent re, (lent im, tt)))))))
+      by_read ([], ([], ([], ([], tt)))) (lent field.re) (lent field.im) (lent_mut out.re) (lent_mut out.im) (read_case (outcome a)).case
+          (record { 0 = p }, (Q, (k, (lent field.re, (lent field.im, (lent_mut re, (lent_mut im, tt)))))))
           ((read_case (outcome a)).is, (refl, refl)),
     )
 
@@ -121,8 +126,8 @@ pub hardens_exist : (readings : Values) (bits : List ℕ) → (y : Output (List 
 hardens_exist readings bits =
     let a = harden_call readings.re readings.im (length bits) in (
       _,
-      by_harden ([], ([], ([], tt))) (lent readings.re) (lent readings.im) (lent bits) (harden_case (outcome a)).case
-          (lent readings.re, (lent readings.im, (lent (after a bits (λ b. written b bits)), tt)))
+      by_harden ([], ([], ([], tt))) (lent readings.re) (lent readings.im) (lent_mut bits) (harden_case (outcome a)).case
+          (lent readings.re, (lent readings.im, (lent_mut (after a bits (λ b. written b bits)), tt)))
           ((harden_case (outcome a)).is, refl),
     )
 

@@ -2,7 +2,7 @@
 -- parameters as they are when it returns.
 use Rattle.std.specs.Prelude.{ℕ, List, ℤ}
 use contract.Lifetimes.{Lfts}
-use Rattle.std.specs.Borrow.{Bor}
+use Rattle.std.specs.Borrow.{Bor, MutBor}
 use Rattle.complex.specs.Buffers.{Values, written}
 use Rattle.codes.specs.Refusals.{Answer, gives}
 use Rattle.read.specs.declared.ReadAnswer.{ReadAnswer}
@@ -25,15 +25,19 @@ pub record Output (B : Type 0) : Type 0 where
 abbrev pub both : Bor (List ℤ) → Bor (List ℤ) → Values
 both re im = record { re = re.now; im = im.now }
 
+-- and two that may be written to
+abbrev pub both_lent : MutBor (List ℤ) → MutBor (List ℤ) → Values
+both_lent re im = record { re = re.now; im = im.now }
+
 -- read (parameter, Q, k, field, two answer buffers) answered and left y
 pub data RanRead (p Q k : ℕ) : (field out : Values) → Output Values → Type 0 where
-  by_read : (κs : Lfts 4) (re im outre outim : Bor (List ℤ)) (r : ReadAnswer) (e : _)
+  by_read : (κs : Lfts 4) (re im : Bor (List ℤ)) (outre outim : MutBor (List ℤ)) (r : ReadAnswer) (e : _)
       → read_contract.Learnt κs (record { 0 = p }, (Q, (k, (re, (im, (outre, (outim, tt))))))) r e
-      → RanRead p Q k (both re im) (both outre outim) (record { answer = answer_of_read r; left = both e.1.1.1.1.1.0 e.1.1.1.1.1.1.0 })
+      → RanRead p Q k (both re im) (both_lent outre outim) (record { answer = answer_of_read r; left = both_lent e.1.1.1.1.1.0 e.1.1.1.1.1.1.0 })
 
 -- harden (readings, byte buffer) answered and left y
 pub data RanHarden : (readings : Values) (bits : List ℕ) → Output (List ℕ) → Type 0 where
-  by_harden : (κs : Lfts 3) (re im : Bor (List ℤ)) (bits : Bor (List ℕ)) (r : HardenAnswer) (e : _) → harden_contract.Learnt κs (re, (im, (bits, tt))) r e
+  by_harden : (κs : Lfts 3) (re im : Bor (List ℤ)) (bits : MutBor (List ℕ)) (r : HardenAnswer) (e : _) → harden_contract.Learnt κs (re, (im, (bits, tt))) r e
       → RanHarden (both re im) bits.now (record { answer = answer_of_harden r; left = e.1.1.0.now })
 
 -- read sync (case, chips) answered t

@@ -1,5 +1,5 @@
--- What load plan ensures, as its callers may take it. The function is walked by hand, so the toolchain makes no `Reads` of it: this makes the same claims, of the
--- `ensures` in the source (`clauses`), and knows less of the arguments than the toolchain's own do.
+-- What load plan ensures, as its callers may take it: made here of the `ensures` in the source (`clauses`). It makes the same claims as the toolchain's own
+-- `Reads` of the function, and knows less of the arguments.
 use Rattle.std.specs.Prelude.{refl, List}
 use base.Logic.{emp}
 use borrow.Fn.Claims.{AllOf}

@@ -5,7 +5,7 @@
 -- (of load plan `LoadPlanReads` does, from the same). So what holds of every run holds of the functions; nothing stands between but the number and the values that an answer stands for.
 use Rattle.std.specs.Prelude.{ℕ, List, [], ◌∷◌, map, ℤ, take}
 use contract.Lifetimes.{Lfts}
-use Rattle.std.specs.Borrow.{Bor}
+use Rattle.std.specs.Borrow.{Bor, MutBor}
 use Rattle.bench.specs.declared.Bench.{Bench}
 use Rattle.bench.specs.declared.Channel.{Channel}
 use Rattle.bench.specs.declared.PlanRecords.{PlanRecords}
@@ -27,7 +27,7 @@ use Rattle.bench.proofs.Bench.draw.Reads as draw_contract
 use Rattle.demands.specs.LoadPlanReads as load_plan_contract
 use Rattle.demands.specs.Calls.{Call, set_cell, open_code, load_plan, close, set_gain, load_bits, set_sync, clear_sync, start, draw, BenchAnswer, Step, as_answer, as_plan_answer, as_draw_answer}
 
--- what a function answered, by document 01's number or values (`answer-of-…`), and the bench that it handed back
+-- what a function answered, by document 01's number or values (`answer_of_…`), and the bench that it handed back
 abbrev pub answered : Answered → Step Bench
 answered r = record { answer = as_answer (answer_of_call r.answer); next = r.bench }
 
@@ -55,7 +55,7 @@ pub data Ran (b : Bench) : Call (List ℤ) → Step Bench → Type 0 where
       → Ran b (set_sync case frame half g_p g_s) (answered r)
   by_clear_sync : (r : Answered) (e : _) → clear_sync_contract.Learnt tt (b, tt) r e → Ran b clear_sync (answered r)
   by_start : (r : Answered) (e : _) → start_contract.Learnt tt (b, tt) r e → Ran b start (answered r)
-  by_draw : (κs : Lfts 2) (re im : Bor (List ℤ)) (r : Drawn) (e : _) → draw_contract.Learnt κs (b, (re, (im, tt))) r e
+  by_draw : (κs : Lfts 2) (re im : MutBor (List ℤ)) (r : Drawn) (e : _) → draw_contract.Learnt κs (b, (re, (im, tt))) r e
       → Ran b (draw re.now im.now) (draw_answered r e.1.0.now e.1.1.0.now)
 
 -- "each other one the bench as the call before left it"
