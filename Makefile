@@ -9,11 +9,14 @@ test:
 
 libraries: lib/libtdd_bench.a lib/libtdd_codes.a
 
+# The crate behind each library: a library that other crates use is exported by a crate of its own.
+CRATE_tables := tables_c
+
 lib/lib%.a: crates.txt $(shell find crates -path '*/src/*' -o -path '*/specs/*' -o -path '*/proofs/*')
 	@mkdir -p lib target
 	@echo "make: proving and building $@, which takes some minutes the first time" >&2
-	@rt staticlib $* >target/$*.log 2>&1 || { tail -n 5 target/$*.log >&2; echo "make: $@ is not proved; target/$*.log says why" >&2; exit 1; }
-	@cp target/staticlib/lib$*.a $@
+	@crate=$(or $(CRATE_$*),$*); rt lib $$crate >target/$*.log 2>&1 || { tail -n 5 target/$*.log >&2; echo "make: $@ is not proved; target/$*.log says why" >&2; exit 1; }; \
+	cp crates/$$crate/out/lib$$crate.a $@
 
 benchmark: libraries lib/libtables.a
 	@cd host && cargo bench --quiet --bench benchmark
