@@ -2,7 +2,7 @@
 ghost use Rattle.std.specs.Prelude.{◌≡◌};
 ghost use Rattle.analyser_parts.specs.Peaks.{or_later};
 
-#[derive(Drop)]
+#[derive(Clone, Copy)]
 pub struct Largest {
     pub at: usize,
     pub value: i64,

@@ -29,7 +29,7 @@ use Rattle.find.specs.PeakSearch.{four_of, size_of}
 
 -- what a local holds that was read from a list
 pub read_is : {z : ℤ} → Within 6400000 z → to_z w32 (of_z w32 z) ≡ z
-read_is h = to_z-of_z (fits_within h tt)
+read_is h = to_z-of_z {w = w32} (fits_within h tt)
 
 pub read_within : {z : ℤ} → Within 6400000 z → Within 6400000 (to_z w32 (of_z w32 z))
 read_within h = held (read_is h) h

@@ -8,13 +8,10 @@ use native.Mathlib.Omega.{arith}
 use lib.Dec.{T, eqb}
 use lib.IntN.{ℤ, pos, neg_ℤ, ◌+ℤ◌, ◌*ℤ◌}
 use lib.Signed.{le_z, lt_z}
-use Rattle.complex.specs.Fits.{Within}
 use Rattle.complex.proofs.Integers.{by_parts, +ℤ_parts, negℤ_pos_part, negℤ_neg_part, pos_one_*ℤ, negsuc_zero_*ℤ}
 use Rattle.complex.proofs.Order.{lt_z_true, lt_z_false, le_z_true, le_le_z, lt_lt_z}
-use Rattle.complex.proofs.Sizes.{within_add, within_more, within_mul}
 use Rattle.codes.specs.Signs.{minus_if}
-use Rattle.codes.proofs.Rows.{minus_if_within}
-use Rattle.read_sync.specs.Leaders.{leader_of_signs, leader_with, Leads, Led}
+use Rattle.read_sync.specs.Leaders.{leader_of_signs, leader_with, Leads}
 use Rattle.read_sync.specs.declared.sync_reading.Leader.{Leader}
 
 -- ---- sums of two scores
@@ -123,12 +120,3 @@ module _ (x : ℤ) where
             others = λ a. absurd (subst T (sym a) tt);
             tied = λ _. (1, omega arith, λ z. absurd (omega (arith, z)), other_sign ∙ e ∙ sym same_sign);
           }
-
--- ---- sizes
-pub signs_led : {k : ℕ} {x : ℤ} → Within k x → Led k 2 (leader_of_signs x)
-signs_led {k} {x} h =
-    let l = leads_of_signs x in
-    record { below = l.below; size = subst (Within k) (sym l.own) (within_more (within_mul (minus_if_within (eqb (leader_of_signs x).at 1)) h) k (omega arith)) }
-
-pub with_led : {k l n : ℕ} {b c : Leader} → Led k n b → Led l 2 c → Led (k + l) (2 * n) (leader_with b c)
-with_led h g = record { below = omega (arith, h.below, g.below); size = within_add h.size g.size }

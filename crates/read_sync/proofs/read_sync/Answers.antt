@@ -1,6 +1,5 @@
 -- `read_sync` meets its contract: its refusals, or the candidate that leads alone. Assumes nothing.
 use mathlib.Core.Path.{◌≡◌, sym, ap, ◌∙◌}
-use mathlib.Core.Logic.{◌≢◌}
 use mathlib.Core.Bool.{Bool, cond}
 use mathlib.Core.List.{List, [], ◌∷◌, ◌++◌}
 use native.Mathlib.Omega.{arith}
@@ -10,7 +9,7 @@ use lib.ListN.{length, take}
 use Rattle.complex.specs.Buffers.{value}
 use Rattle.codes.specs.Refusals.{refused, gives, Refusal, ◌if◌, refusal_number}
 use Rattle.codes.specs.Allocation.{one_or_two}
-use Rattle.codes.proofs.Refused.{numbered, Passed, passed, accepted, not_accepted, refused_early, passed_early}
+use Rattle.codes.proofs.Refused.{numbered, Passed, passed, accepted, not_accepted, passed_early}
 use Rattle.codes.proofs.Tests.{neither}
 use Rattle.analyser_parts.specs.Components.{outside}
 use Rattle.analyser_parts.proofs.Ranges.{not_outside}
@@ -30,12 +29,6 @@ late c = let s = c.args in 19 if eqb (winner s.case (value s.re.now s.im.now)) (
 tests : (c : Else-number-ne0) → Passed (early c.before.before)
 unfolding numbered
 tests c = passed (early c.before.before) tt (sym c.refusal-number.ensures ∙ c.if-number-ne0.false)
-
-pub returns-then-number-ne0 : goal.returns-then-number-ne0
-returns-then-number-ne0 c =
-    let some : refusal_number (early (goal.at.returns-then-number-ne0 c).Start) ≢ 0 = λ z. c.if-number-ne0.true (c.refusal-number.ensures ∙ z) in
-    let e = refused_early (early (goal.at.returns-then-number-ne0 c).Start) (late (goal.at.returns-then-number-ne0 c).Start) some in
-    ap refused (c.refusal-number.ensures ∙ sym e) ∙ sym (not_accepted _ (early (goal.at.returns-then-number-ne0 c).Start ++ late (goal.at.returns-then-number-ne0 c).Start) (λ z. some (sym e ∙ z)))
 
 pub lead-leader-requires : goal.lead-leader-requires
 lead-leader-requires c =

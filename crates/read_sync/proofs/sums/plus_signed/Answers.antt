@@ -5,7 +5,7 @@ use mir.Val.{SFits}
 use mir.Facts.{to_z-of_z}
 use Rattle.complex.specs.Fits.{Within}
 use Rattle.complex.proofs.Sizes.{within_add, within_mul, fits_within}
-use Rattle.complex.proofs.Machine.{mul_asks, mul_gives}
+use Rattle.complex.proofs.Machine.{mul_gives}
 use Rattle.read_sync.proofs.sums.plus_signed.Goals as goal
 use Rattle.read_sync.proofs.sums.plus_signed.Goals.{Start}
 
@@ -17,12 +17,6 @@ product c = fits_within (product_within c) tt
 
 sum : (c : Start) → SFits w32 (c.args.s +ℤ c.args.sign *ℤ c.args.x)
 sum c = fits_within (within_add c.requires.0 (product_within c)) tt
-
-pub overflow_mul-result : goal.overflow_mul-result
-overflow_mul-result c = mul_asks c.ranges.sign c.ranges.x (product c)
-
-pub overflow_add-result : goal.overflow_add-result
-overflow_add-result c = rw (mul_gives c.ranges.sign c.ranges.x (product c), to_z-of_z c.ranges.s) (sum c)
 
 pub returns : goal.returns
 returns c = rw (mul_gives c.ranges.sign c.ranges.x (product c), to_z-of_z c.ranges.s) (to_z-of_z (sum c))

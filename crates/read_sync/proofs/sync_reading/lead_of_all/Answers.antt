@@ -36,9 +36,6 @@ set_leader-requires c = ((known (goal.at.set_leader-requires c).Start).below, om
 pub or_later-leader-requires : goal.or_later-leader-requires
 or_later-leader-requires c = (omega (arith, (known (goal.at.or_later-leader-requires c).Start).below), c.set_leader.ensures.below)
 
-pub overflow_step-n : goal.overflow_step-n
-overflow_step-n c = omega (arith, (known (goal.at.overflow_step-n c).Start).below)
-
 pub loop-n-preserved : goal.loop-n-preserved
 loop-n-preserved c =
     let l = c.loop-n in

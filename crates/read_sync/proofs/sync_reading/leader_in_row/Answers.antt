@@ -1,24 +1,20 @@
 -- `leader_in_row` meets its contract: the row's unit says which part of a product counts. Assumes nothing.
 use mathlib.Core.Logic.{◌≢◌}
-use mathlib.Core.List.{List}
 use mathlib.Core.Path.{◌≡◌, sym, ap, ◌∙◌, subst}
 use Prim.Native.Nat.{ℕ, ◌<◌}
 use lib.IntN.{ℤ, pos}
-use lib.ListN.{get_or}
 use mir.Syntax.{w32}
 use mir.Val.{to_z, of_z}
 use mir.Facts.{to_z-of_z}
 use Rattle.complex.specs.declared.Complex.{Complex}
 use Rattle.complex.specs.Arithmetic.{◌⊗◌, conj}
 use Rattle.complex.specs.Buffers.{value}
-use Rattle.complex.specs.Fits.{Within, Bound}
+use Rattle.complex.specs.Fits.{Within}
 use Rattle.complex.proofs.Sizes.{fits_within}
 use Rattle.codes.specs.declared.burst.AllocationRow.{AllocationRow}
 use Rattle.codes.specs.Allocation.{allocation_row}
 use Rattle.codes.proofs.Allocations.{unit_small}
-use Rattle.read_sync.specs.Leaders.{leader_of_row, leader_of_signs, Led}
-use Rattle.read_sync.specs.declared.sync_reading.Leader.{Leader}
-use Rattle.read_sync.proofs.SumLeaders.{signs_led}
+use Rattle.read_sync.specs.Leaders.{leader_of_row, leader_of_signs}
 use Rattle.read_sync.proofs.Sets.{row_small, by_unit}
 use Rattle.read_sync.proofs.sync_reading.leader_in_row.Goals as goal
 use Rattle.read_sync.proofs.sync_reading.leader_in_row.Goals.{After-row_of-r}
@@ -48,10 +44,6 @@ module _ (c : After-row_of-r) where
   real_parts : (allocation_row c.args.n c.args.set).unit.re ≢ pos 0 → (i : ℕ) → leader_of_signs (products i).re ≡ leader_of_signs (share i)
   real_parts n i = ap leader_of_signs (sym ((by_unit c.args.n c.args.set (products i) c.requires.0).1 n))
 
--- a leader of signs, by the size of what it was made of
-led : {l : Leader} {x : List ℤ} → Bound 5300000000000000 x → (i : ℕ) → l ≡ leader_of_signs (get_or x i (pos 0)) → Led 5300000000000000 2 l
-led h i e = subst (Led 5300000000000000 2) (sym e) (signs_led (h.at i))
-
 pub sign_leader-marker-requires : goal.sign_leader-marker-requires
 sign_leader-marker-requires c = ((small c).2, c.requires.2)
 
@@ -60,11 +52,6 @@ sign_leader-requires c = ((small (goal.at.sign_leader-requires c).After-row_of-r
 
 pub sign_leader-requires-then-r-eq0 : goal.sign_leader-requires-then-r-eq0
 sign_leader-requires-then-r-eq0 c = ((small (goal.at.sign_leader-requires-then-r-eq0 c).After-row_of-r).1, c.requires.3)
-
-pub row_leader-requires : goal.row_leader-requires
-row_leader-requires c =
-    let z = c in
-    (led z.requires.3 _ c.sign_leader.ensures, led z.requires.3 _ c.sign_leader-then-r-eq0.ensures, led z.requires.2 _ c.sign_leader-marker.ensures)
 
 pub returns-then-r-eq0 : goal.returns-then-r-eq0
 returns-then-r-eq0 c =
@@ -79,11 +66,6 @@ sign_leader-requires-2 c = ((small (goal.at.sign_leader-requires-2 c).After-row_
 
 pub sign_leader-requires-3 : goal.sign_leader-requires-3
 sign_leader-requires-3 c = ((small (goal.at.sign_leader-requires-3 c).After-row_of-r).1, c.requires.2)
-
-pub row_leader-requires-2 : goal.row_leader-requires-2
-row_leader-requires-2 c =
-    let z = c in
-    (led z.requires.2 _ c.sign_leader-2.ensures, led z.requires.2 _ c.sign_leader-3.ensures, led z.requires.2 _ c.sign_leader-marker.ensures)
 
 pub returns : goal.returns
 returns c =

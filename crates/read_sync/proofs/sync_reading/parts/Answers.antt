@@ -11,7 +11,6 @@ use mir.Facts.{to_z-of_z}
 use Rattle.complex.specs.Fits.{Within}
 use Rattle.complex.specs.Buffers.{listed}
 use Rattle.complex.proofs.Lists.{one_more_written, all_written}
-use Rattle.complex.proofs.Bounds.{bound_more}
 use Rattle.complex.proofs.Sizes.{within_add, within_sub, fits_within}
 use Rattle.codes.specs.PackedSigns.{packed}
 use Rattle.codes.specs.SyncCodes.{a, b}
@@ -55,14 +54,6 @@ module _ (c : After-half_sum-last) where
 pub loop-m-init : goal.loop-m-init
 unfolding listed
 loop-m-init c = (omega arith, refl, refl)
-
-pub half_sum-first-requires : goal.half_sum-first-requires
-half_sum-first-requires c =
-    (omega arith, omega arith, omega arith, bound_more c.requires.1 1600000 (omega arith))
-
-pub half_sum-last-requires : goal.half_sum-last-requires
-half_sum-last-requires c =
-    (omega arith, omega arith, omega arith, bound_more c.requires.1 1600000 (omega arith))
 
 pub plus-s-requires : goal.plus-s-requires
 plus-s-requires c = fits_within (within_add (first_within c) (last_within c)) tt
