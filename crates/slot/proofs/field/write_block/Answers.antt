@@ -10,7 +10,6 @@ use Rattle.slot.specs.Slot.{sync_chip}
 use Rattle.slot.specs.View.{view_sync}
 use Rattle.slot.proofs.BurstBlocks.{falls_nowhere}
 use Rattle.slot.proofs.FieldBlocks.{whole_chips, part_chips}
-
 use Rattle.slot.proofs.field.write_block.Goals as goal
 use Rattle.slot.proofs.field.write_block.Goals.{Start}
 

@@ -9,7 +9,6 @@ use borrow.Author.Rules.{rules}
 use lib.ListN.{length, get_or, length-set}
 use Rattle.tables.specs.PairChanges.{cleared}
 use Rattle.tables.proofs.Entries.{Became, passed, all_entries, none_passed, one_more_passed, all_passed}
-
 use Rattle.tables.proofs.pairs.clear_leaves.Invariants.{kept}
 use Rattle.tables.proofs.pairs.clear_leaves.Goals as goal
 

@@ -4,7 +4,6 @@ use native.Mathlib.Omega.{arith}
 use borrow.Author.Rules.{rules}
 use lib.ListN.{get_or}
 use Rattle.tables.proofs.Blocks.{is_bit}
-
 use Rattle.tables.proofs.pairs.inner_pair.Goals as goal
 use Rattle.tables.proofs.pairs.inner_pair.Goals.{Start}
 
