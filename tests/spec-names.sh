@@ -7,7 +7,14 @@ cd "$(dirname "$0")/.."
 LC_ALL=C
 export LC_ALL
 
-libraries=$(awk -F: '/^[a-z]/ && $2 !~ / io/ { print "crates/" $1 "/src" }' crates.txt)
+# crate text reads and prints, and so does what stands on it; crates.txt lists a crate after those that it uses
+libraries=$(awk '
+    /^[a-z]/ {
+        sub(/( staticlib)?:/, "")
+        reads[$1] = $1 == "text"
+        for (i = 2; i <= NF; i++) if (reads[$i]) reads[$1] = 1
+        if (!reads[$1]) print "crates/" $1 "/src"
+    }' crates.txt)
 
 defined() {
     find crates/*/specs -name '*.antt' -exec awk '
