@@ -47,7 +47,7 @@ and should be
 $functions"
 for function in $functions; do
     case $function in
-    load_plan) # walked by hand, and read in a file of its own
+    load_plan) # read in a file of its own
         grep -qxF "use Rattle.demands.specs.LoadPlanReads as ${function}_contract" "$runs" && grep -qF "use Rattle.bench.specs.contracts.Bench.$function.{clauses," "$plan" &&
             grep -qF 'ensures_of w = (clauses ' "$plan" && grep -qxF '  Learnt = AllOf reads.tells' "$plan"
         ;;
