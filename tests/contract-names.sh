@@ -24,7 +24,7 @@ public() {
 
 # The contracts that a part of Runs takes, one a line: taken FIRST-WORDS, the part ending with an empty line
 taken() {
-    awk -v first="$1" 'index($0, first) == 1 { inside = 1 } /^$/ { inside = 0 } inside' "$runs" | grep -o '[a-z0-9-]*-contract\.Learnt' | sed 's/-contract.*//'
+    awk -v first="$1" 'index($0, first) == 1 { inside = 1 } /^$/ { inside = 0 } inside' "$runs" | grep -o '[a-z0-9_]*_contract\.Learnt' | sed 's/_contract.*//'
 }
 
 # The text from a public function's name to its body, which begins with a brace alone on its line: head_of CRATE FUNCTION
@@ -40,29 +40,27 @@ for module in $(sed -n 's/^pub mod \(.*\);$/\1/p' "$root/crates/bench/src/lib.rt
     ! grep -qwE 'Bench|Answered|Planned|Drawn' "$root/crates/bench/src/$module.rt" || fail "the public module $module of crate bench speaks of a bench; its functions would be no case of a run"
 done
 ! grep -n '^pub use' "$root/crates/bench/src/lib.rt" || fail "crate bench makes public what stands in a module; a function of that would be no case of a run"
-due=$(echo "$functions" | tr _ - | sort)
 found=$({ taken 'pub data Ran '; taken 'pub record Run '; } | sort)
-[ "$found" = "$due" ] || fail "the functions whose contracts make a run are
+[ "$found" = "$functions" ] || fail "the functions whose contracts make a run are
 $found
 and should be
-$due"
+$functions"
 for function in $functions; do
-    name=$(echo "$function" | tr _ -)
     case $function in
-    load_plan) # walked by hand, and read in a file of its own
-        grep -qF "use Rattle·demands·specs.specs.LoadPlanReads as $name-contract" "$runs" && grep -qF "use Rattle·bench.proofs.Bench.$function.{clauses," "$plan" &&
-            grep -qF 'ensures-of w = clauses ' "$plan" && grep -qxF '  Learnt = AllOf (reads .tells)' "$plan"
+    load_plan) # read in a file of its own
+        grep -qxF "use Rattle.demands.specs.LoadPlanReads as ${function}_contract" "$runs" && grep -qF "use Rattle.bench.specs.contracts.Bench.$function.{clauses," "$plan" &&
+            grep -qF 'ensures_of w = (clauses ' "$plan" && grep -qxF '  Learnt = AllOf reads.tells' "$plan"
         ;;
-    *) grep -qF "use Rattle·bench.proofs.Bench.$function.Reads as $name-contract" "$runs" ;;
-    esac || fail "$name-contract in $runs is not the contract of $function"
+    *) grep -qxF "use Rattle.bench.proofs.Bench.$function.Reads as ${function}_contract" "$runs" ;;
+    esac || fail "${function}_contract in $runs is not the contract of $function"
     [ "$function" != fresh ] || {
         echo "contract-names: a run begins with what fresh gives by its own contract"
         continue
     }
-    awk -v name="$name" '
-        index($0, "  by-") == 1 { inside = index($0, "  by-" name " :") == 1 }
-        inside && index($0, name "-contract.Learnt ") { found = 1 }
-        END { exit !found }' "$runs" || fail "the case by-$name in $runs does not take what $function ensures"
+    awk -v name="$function" '
+        index($0, "  by_") == 1 { inside = index($0, "  by_" name " :") == 1 }
+        inside && index($0, " " name "_contract.Learnt ") { found = 1 }
+        END { exit !found }' "$runs" || fail "the case by_$function in $runs does not take what $function ensures"
     echo "contract-names: $function is a case of a run by its own contract"
 done
 

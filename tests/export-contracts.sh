@@ -23,12 +23,12 @@ ensured() {
 # group by its number.
 definition() {
     ensured "$1" "$2" | sed -n '1 {
-        s/.* ≡ \(outcome\|plan-outcome\|draw-outcome\) (\(.*\)) ⌝ }$/\2/; t named
-        s/.* ≡ \(.*\) ⌝ }$/\1/
+        s/.* ≡ \(outcome\|plan_outcome\|draw_outcome\) (\(.*\)) }$/\2/; t named
+        s/.* ≡ \(.*\) }$/\1/
         : named
         s/ self/ bench/g
-        s/set-cell-call bench cell/set-cell-call bench (record { 0 = cell })/
-        s/(\([a-z]*\) \.0)/\1/g
+        s/set_cell_call bench cell/set_cell_call bench (record { 0 = cell })/
+        s/\b\([a-z]*\)\.0\b/\1/g
         p
     }'
 }
@@ -94,58 +94,58 @@ export_of() {
 }
 
 clause() {
-    echo "ensures $1 { λ r. ⌜ $2 ⌝ }"
+    echo "ensures $1 { $2 }"
 }
 
-refusal=$(clause refusal 'r .refusal ≡ refusal-of CALL')
+refusal=$(clause refusal 'result.refusal ≡ refusal_of CALL')
 bench=crates/bench/src/lib.rt
 for name in set_cell open close set_gain load_bits set_sync clear_sync start; do
     export_of $bench $name tdd_bench tdd_bench_$name "$refusal
-$(clause bench 'r .bench ≡ left-by CALL bench')"
+$(clause bench 'result.bench ≡ left_by CALL bench')"
 done
-export_of $bench load_records tdd_bench tdd_bench_load_records "$(clause refusal 'r .refusal ≡ plan-refusal-of CALL')
-$(clause place 'r .place ≡ place-of CALL')
-$(clause bench 'r .bench ≡ plan-left-by CALL bench')"
+export_of $bench load_records tdd_bench tdd_bench_load_records "$(clause refusal 'result.refusal ≡ plan_refusal_of CALL')
+$(clause place 'result.place ≡ place_of CALL')
+$(clause bench 'result.bench ≡ plan_left_by CALL bench')"
 export_of $bench draw tdd_bench tdd_bench_draw "$refusal
-$(clause count 'r .count ≡ after CALL 0 (λ d. d .count)')
-$(clause bench 'r .bench ≡ after CALL bench (λ d. d .bench)')
-$(clause real 'now (re .exit) ≡ after CALL (now (re .entry)) (λ d. written (d .chips .re) (now (re .entry)))')
-$(clause imaginary 'now (im .exit) ≡ after CALL (now (im .entry)) (λ d. written (d .chips .im) (now (im .entry)))')"
+$(clause count 'result.count ≡ after CALL 0 (λ d. d.count)')
+$(clause bench 'result.bench ≡ after CALL bench (λ d. d.bench)')
+$(clause real 're.new ≡ after CALL re.old (λ d. written d.chips.re re.old)')
+$(clause imaginary 'im.new ≡ after CALL im.old (λ d. written d.chips.im im.old)')"
 in_order $bench fresh tdd_bench tdd_bench_fresh
 same "what tdd_bench_fresh ensures in crates/tdd_bench/src/lib.rt is" "$(ensured crates/tdd_bench/src/lib.rt tdd_bench_fresh)" "$(ensured $bench fresh)"
 
 # The analyser answers a number, or a struct of numbers.
-export_of crates/read/src/lib.rt read tdd_bench tdd_read "$(clause refusal 'r ≡ refusal-of CALL')
-$(clause real 'now (outre .exit) ≡ after CALL (now (outre .entry)) (λ y. written (y .re) (now (outre .entry)))')
-$(clause imaginary 'now (outim .exit) ≡ after CALL (now (outim .entry)) (λ y. written (y .im) (now (outim .entry)))')"
-export_of crates/harden/src/lib.rt harden tdd_bench tdd_harden "$(clause refusal 'r ≡ refusal-of CALL')
-$(clause bytes 'now (bits .exit) ≡ after CALL (now (bits .entry)) (λ b. written b (now (bits .entry)))')"
+export_of crates/read/src/lib.rt read tdd_bench tdd_read "$(clause refusal 'result ≡ refusal_of CALL')
+$(clause real 'outre.new ≡ after CALL outre.old (λ y. written y.re outre.old)')
+$(clause imaginary 'outim.new ≡ after CALL outim.old (λ y. written y.im outim.old)')"
+export_of crates/harden/src/lib.rt harden tdd_bench tdd_harden "$(clause refusal 'result ≡ refusal_of CALL')
+$(clause bytes 'bits.new ≡ after CALL bits.old (λ b. written b bits.old)')"
 export_of crates/read_sync/src/lib.rt read_sync tdd_bench tdd_read_sync "$refusal
-$(clause group 'r .group ≡ after CALL 0 (λ c. c .group .0)')
-$(clause frame 'r .frame ≡ after CALL 0 (λ c. c .frame)')
-$(clause half 'r .half ≡ after CALL 0 (λ c. c .half)')"
+$(clause group 'result.group ≡ after CALL 0 (λ c. c.group.0)')
+$(clause frame 'result.frame ≡ after CALL 0 (λ c. c.frame)')
+$(clause half 'result.half ≡ after CALL 0 (λ c. c.half)')"
 export_of crates/find/src/lib.rt find tdd_bench tdd_find "$refusal
-$(clause start 'r .start ≡ after CALL 0 (λ p. p .start)')
-$(clause size 'r .size ≡ after CALL (pos 0) (λ p. p .size)')
-$(clause real 'ScratchLeft CALL (now (sumre .entry)) (now (sumre .exit))')
-$(clause imaginary 'ScratchLeft CALL (now (sumim .entry)) (now (sumim .exit))')"
+$(clause start 'result.start ≡ after CALL 0 (λ p. p.start)')
+$(clause size 'result.size ≡ after CALL (pos 0) (λ p. p.size)')
+$(clause real 'ScratchLeft CALL sumre.old sumre.new')
+$(clause imaginary 'ScratchLeft CALL sumim.old sumim.new')"
 
 codes=crates/codes/src/lib.rt
 export_of $codes element tdd_codes tdd_element "$refusal
-$(clause element 'r .element ≡ after CALL (pos 0) (λ e. e)')"
+$(clause element 'result.element ≡ after CALL (pos 0) (λ e. e)')"
 export_of $codes related tdd_codes tdd_related "$refusal
-$(clause related 'r .related ≡ after CALL 0 (λ t. cond t 1 0)')"
+$(clause related 'result.related ≡ after CALL 0 (λ t. cond t 1 0)')"
 export_of $codes code_group tdd_codes tdd_code_group "$refusal
-$(clause group 'r .group ≡ after CALL 0 (λ g. g)')"
+$(clause group 'result.group ≡ after CALL 0 (λ g. g)')"
 chip="$refusal
-$(clause chip 'r .chip ≡ after CALL 𝟎 (λ x. x)')"
+$(clause chip 'result.chip ≡ after CALL 𝟎 (λ x. x)')"
 export_of $codes scrambling_chip tdd_codes tdd_scrambling_chip "$chip"
 export_of $codes primary_chip tdd_codes tdd_primary_chip "$chip"
 export_of $codes secondary_chip tdd_codes tdd_secondary_chip "$chip"
 export_of $codes allocation tdd_codes tdd_allocation "$refusal
-$(clause codes 'r .codes ≡ after CALL silent (λ s. s)')"
+$(clause codes 'result.codes ≡ after CALL silent (λ s. s)')"
 export_of $codes burst_start tdd_codes tdd_burst_start "$refusal
-$(clause start 'r .start ≡ after CALL 0 (λ n. n)')"
+$(clause start 'result.start ≡ after CALL 0 (λ n. n)')"
 
 exports=$(cat "$root"/crates/tdd_bench/src/*.rt "$root"/crates/tdd_codes/src/*.rt | grep -c '^pub extern "C" fn ')
 [ "$exports" = "$compared" ] || fail "there are $exports exports, and $compared were compared"

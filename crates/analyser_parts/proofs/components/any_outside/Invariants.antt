@@ -13,4 +13,3 @@ use Rattle.analyser_parts.proofs.components.any_outside.Given as goal
 
 abbrev pub invariant-loop-i : goal.invariant-loop-i
 invariant-loop-i l = (l.i ≤ length l.x) × (l.found || outside (drop l.i l.x)) ≡ outside l.x
--- LOOPS [[["loop", "loop-i"], ["x", "found", "i", "i-end"]]]

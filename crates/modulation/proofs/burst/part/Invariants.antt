@@ -23,4 +23,3 @@ use Rattle.modulation.proofs.burst.part.Given as goal
 
 abbrev pub invariant-loop-i : goal.invariant-loop-i
 invariant-loop-i l = Filled (part_chip l.p l.s) l.re l.im l.i
--- LOOPS [[["loop", "loop-i"], ["case", "frame", "half", "gp", "gs", "m", "p", "s", "re", "im", "i"]]]

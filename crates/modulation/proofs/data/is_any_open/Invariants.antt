@@ -13,4 +13,3 @@ use Rattle.modulation.proofs.data.is_any_open.Given as goal
 
 abbrev pub invariant-loop-k : goal.invariant-loop-k
 invariant-loop-k l = (l.k ≤ l.q) × (l.found ≡ any l.k (λ m. not (eqb (get_or l.gains (node l.q m) 0) 0)))
--- LOOPS [[["loop", "loop-k"], ["gains", "q", "found", "k"]]]

@@ -7,4 +7,3 @@ use Rattle.modulation.proofs.data.raised.Given as goal
 
 abbrev pub invariant-loop-i : goal.invariant-loop-i
 invariant-loop-i l = Row (raised l.x l.q) l.y l.i
--- LOOPS [[["loop", "loop-i"], ["x", "q", "y", "i"]]]

@@ -7,4 +7,3 @@ use Rattle.modulation.proofs.data.scrambled.Given as goal
 
 abbrev pub invariant-loop-i : goal.invariant-loop-i
 invariant-loop-i l = Row (scrambled l.t l.even l.odd) l.y l.i
--- LOOPS [[["loop", "loop-i"], ["t", "even", "odd", "y", "i"]]]

@@ -19,4 +19,3 @@ use Rattle.modulation.proofs.data.scrambling_signs.Given as goal
 
 abbrev pub invariant-loop-i : goal.invariant-loop-i
 invariant-loop-i l = Filled (scrambling_signs l.cell.0) l.re l.im l.i
--- LOOPS [[["loop", "loop-i"], ["cell", "re", "im", "i"]]]

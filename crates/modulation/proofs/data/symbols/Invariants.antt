@@ -11,4 +11,3 @@ use Rattle.modulation.proofs.data.symbols.Given as goal
 
 abbrev pub invariant-loop-i : goal.invariant-loop-i
 invariant-loop-i l = Row (λ j. component (symbol (get_or l.pairs (l.from + j) 0)) l.real) l.x l.i
--- LOOPS [[["loop", "loop-i"], ["pairs", "from", "real", "x", "i"]]]

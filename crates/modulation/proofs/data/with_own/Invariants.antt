@@ -17,4 +17,3 @@ use Rattle.modulation.proofs.data.with_own.Given as goal
 
 abbrev pub invariant-loop-i : goal.invariant-loop-i
 invariant-loop-i l = Row (with_own l.gains l.s l.x l.q) l.y l.i × ((k : ℕ) → k ≤ 1966050 → Bound k l.x → Bound (k + 65535) l.y)
--- LOOPS [[["loop", "loop-i"], ["gains", "s", "x", "q", "y", "i"]]]

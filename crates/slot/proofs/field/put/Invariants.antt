@@ -16,4 +16,3 @@ abbrev pub invariant-loop-i : goal.invariant-loop-i
 invariant-loop-i l =
     (l.i ≤ l.i-end) × (length l.part ≡ length l.initial.part) × (l.part ≡ written (listed l.i (λ j. get_or l.x (l.from + j) (pos 0))) l.initial.part)
 
--- LOOPS [[["loop", "loop-i"], ["part", "x", "from", "i", "i-end"]]]

@@ -26,4 +26,3 @@ invariant-loop-done l =
 abbrev pub decreases-loop-done : goal.decreases-loop-done
 decreases-loop-done l = l.n - l.done
 
--- LOOPS [[["loop", "loop-done"], ["gains", "levels", "pairs", "cell", "sync", "tre", "tim", "before", "start", "q", "re", "im", "n", "done"]]]

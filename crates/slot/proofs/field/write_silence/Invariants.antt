@@ -11,4 +11,3 @@ use Rattle.slot.proofs.field.write_silence.Given as goal
 abbrev pub invariant-loop-i : goal.invariant-loop-i
 invariant-loop-i l = (l.i ≤ l.i-end) × (length l.part ≡ length l.initial.part) × (l.part ≡ written (listed l.i (λ j. pos 0)) l.initial.part)
 
--- LOOPS [[["loop", "loop-i"], ["part", "i", "i-end"]]]

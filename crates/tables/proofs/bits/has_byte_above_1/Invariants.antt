@@ -13,4 +13,3 @@ use Rattle.tables.proofs.bits.has_byte_above_1.Given as goal
 abbrev pub invariant-loop-i : goal.invariant-loop-i
 invariant-loop-i l = (l.i ≤ length l.bits) × (l.found ≡ any l.i (λ n. ltb 1 (get_or l.bits n 0)))
 
--- LOOPS [[["loop", "loop-i"], ["bits", "found", "i", "i-end"]]]

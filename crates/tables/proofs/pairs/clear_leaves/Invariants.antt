@@ -21,4 +21,3 @@ invariant-loop-i l = (l.i ≤ 16) × (length l.all ≡ 2208)
 abbrev pub invariant-loop-m : goal.invariant-loop-m
 invariant-loop-m l = (l.m ≤ 138) × (length l.all ≡ 2208) × Became (passed (kept l.leaves) (16 * l.m)) l.initial.all l.all
 
--- LOOPS [[["loop2", "loop-i"], ["leaves", "all", "m", "i"]], [["loop", "loop-m"], ["leaves", "all", "m"]]]

@@ -10,4 +10,3 @@ use Rattle.tables.proofs.pairs.open_leaves.Given as goal
 abbrev pub invariant-loop-l : goal.invariant-loop-l
 invariant-loop-l l = (l.l ≤ 16) × (l.leaves ≡ written (listed l.l (is_leaf_open l.gains)) l.initial.leaves)
 
--- LOOPS [[["loop", "loop-l"], ["gains", "leaves", "l"]]]

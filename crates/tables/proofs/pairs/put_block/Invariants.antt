@@ -10,4 +10,3 @@ use Rattle.tables.proofs.pairs.put_block.Given as goal
 abbrev pub invariant-loop-i : goal.invariant-loop-i
 invariant-loop-i l = (l.i ≤ 16) × (length l.all ≡ 2208) × Became (part l.at (λ j. pair l.bits (l.n + j)) l.i) l.initial.all l.all
 
--- LOOPS [[["loop", "loop-i"], ["at", "bits", "n", "all", "i"]]]

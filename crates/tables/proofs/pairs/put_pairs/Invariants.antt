@@ -11,4 +11,3 @@ use Rattle.tables.proofs.pairs.put_pairs.Given as goal
 abbrev pub invariant-loop-i : goal.invariant-loop-i
 invariant-loop-i l = (l.i ≤ l.w) × (length l.all ≡ 2208) × Became (part l.at (λ j. pair l.bits (l.n + j)) l.i) l.initial.all l.all
 
--- LOOPS [[["loop", "loop-i"], ["at", "w", "bits", "n", "all", "i"]]]

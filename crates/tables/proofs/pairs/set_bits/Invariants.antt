@@ -13,4 +13,3 @@ use Rattle.tables.proofs.pairs.set_bits.Given as goal
 abbrev pub invariant-loop-m : goal.invariant-loop-m
 invariant-loop-m l = (l.m ≤ 138) × (0 < l.m → length l.pairs ≡ 2208) × Became (blocks l.w l.k (pair l.bits) l.m) l.initial.pairs l.pairs
 
--- LOOPS [[["loop", "loop-m"], ["pairs", "q", "k", "bits", "w", "from", "m"]]]
