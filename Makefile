@@ -15,7 +15,7 @@ CRATE_tables := tables_c
 lib/lib%.a: crates.txt $(shell find crates -path '*/src/*' -o -path '*/specs/*' -o -path '*/proofs/*')
 	@mkdir -p lib target
 	@echo "make: proving and building $@, which takes some minutes the first time" >&2
-	@crate=$(or $(CRATE_$*),$*); rt lib $$crate >target/$*.log 2>&1 || { tail -n 5 target/$*.log >&2; echo "make: $@ is not proved; target/$*.log says why" >&2; exit 1; }; \
+	@crate=$(or $(CRATE_$*),$*); (cd crates/$$crate && rt lib) >target/$*.log 2>&1 || { tail -n 5 target/$*.log >&2; echo "make: $@ is not proved; target/$*.log says why" >&2; exit 1; }; \
 	cp crates/$$crate/out/lib$$crate.a $@
 
 benchmark: libraries lib/libtables.a
