@@ -70,7 +70,7 @@ pub struct PlanRecords {
 }
 
 // Of an accepted draw, how many chips it wrote.
-#[derive(Drop)]
+#[derive(Clone, Copy)]
 pub enum DrawAnswer {
     Drew(usize),
     Refused(u32),
