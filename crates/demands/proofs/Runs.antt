@@ -4,7 +4,6 @@ use mathlib.Core.Path.{◌≡◌, refl, sym, ap, subst, ◌∙◌}
 use mathlib.Core.List.{List, [], ◌∷◌, map}
 use lib.IntN.{ℤ}
 use Rattle.bench.specs.declared.Bench.{Bench}
-use Rattle.bench.specs.BenchCalls.{fresh}
 use Rattle.demands.specs.Calls.{Call, BenchAnswer, Step}
 use Rattle.demands.specs.Reference.{Reference, fresh_reference, arguments, answers_by, left_after}
 use Rattle.demands.specs.Runs.{RunFrom, ended, ◌then◌, Run, answers_in, left_from, left_in}

@@ -1,6 +1,5 @@
 -- `burst_start` meets its contract: its one test, then the start. Assumes nothing.
 use mathlib.Core.Path.{ap}
-use borrow.Author.Rules.{rules}
 use borrow.Author.Tests.{le-leb, lt-leb}
 use Rattle.codes.specs.Refusals.{gives}
 use Rattle.codes.proofs.burst_start.Goals as goal

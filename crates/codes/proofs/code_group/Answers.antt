@@ -1,6 +1,5 @@
 -- `code_group` meets its contract: its one test, then the group. Assumes nothing.
 use mathlib.Core.Path.{ap}
-use borrow.Author.Rules.{rules}
 use borrow.Author.Tests.{le-leb, lt-leb}
 use Rattle.codes.specs.Refusals.{gives}
 use Rattle.codes.proofs.code_group.Goals as goal

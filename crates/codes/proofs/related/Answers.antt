@@ -1,6 +1,5 @@
 -- `related` meets its contract: the tests of its refusals in order, then the relation. Assumes nothing.
 use mathlib.Core.Path.{◌≡◌, sym, ap, ◌∙◌}
-use borrow.Author.Rules.{rules}
 use borrow.Author.Tests.{le-leb, lt-leb}
 use mathlib.Core.Bool.{true}
 use Rattle.codes.specs.Refusals.{gives}

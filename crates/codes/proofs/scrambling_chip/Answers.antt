@@ -1,6 +1,5 @@
 -- `scrambling_chip` meets its contract: the tests of its refusals in order, then the element. Assumes nothing.
 use mathlib.Core.Path.{ap}
-use borrow.Author.Rules.{rules}
 use borrow.Author.Tests.{le-leb, lt-leb}
 use Rattle.codes.specs.Refusals.{gives}
 use Rattle.codes.proofs.scrambling_chip.Goals as goal

@@ -1,6 +1,5 @@
 -- `secondary_chip` meets its contract: the tests of its refusals in order, then the chip. Assumes nothing.
 use mathlib.Core.Path.{◌≡◌, sym, ap, ◌∙◌}
-use borrow.Author.Rules.{rules}
 use borrow.Author.Tests.{not-true, not-false, le-leb, lt-leb}
 use mathlib.Core.Bool.{true}
 use Rattle.codes.specs.Refusals.{gives}

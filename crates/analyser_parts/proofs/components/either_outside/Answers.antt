@@ -1,6 +1,5 @@
 -- `either_outside` meets its contract. Assumes nothing.
 use mathlib.Core.Path.{sym, ◌∙◌}
-use borrow.Author.Rules.{rules}
 use Rattle.analyser_parts.proofs.components.either_outside.Goals as goal
 
 pub returns-then-any_outside : goal.returns-then-any_outside

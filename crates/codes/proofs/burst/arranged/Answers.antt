@@ -1,6 +1,5 @@
 -- `arranged` meets its contract: the marker's unit is 1 or -1. Assumes nothing.
 use mathlib.Core.Path.{◌∙◌}
-use borrow.Author.Rules.{rules}
 use Rattle.complex.specs.Arithmetic.{real, 𝟏}
 use Rattle.complex.proofs.Ring.{⊗-𝟏}
 use Rattle.codes.specs.Signs.{minus_if}

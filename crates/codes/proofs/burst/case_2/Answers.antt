@@ -2,7 +2,6 @@
 use mathlib.Core.Path.{◌≡◌, refl, sym, subst}
 use mathlib.Core.Bool.{Bool, true, false, not, beq}
 use lib.IntN.{◌*ℤ◌}
-use borrow.Author.Rules.{rules}
 use Rattle.complex.specs.Fits.{Both}
 use Rattle.codes.specs.Signs.{minus_if}
 use Rattle.codes.specs.declared.burst.AllocationRow.{AllocationRow}

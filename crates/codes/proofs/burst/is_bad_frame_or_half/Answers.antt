@@ -1,7 +1,6 @@
 -- `is_bad_frame_or_half` meets its contract, test by test. Assumes nothing.
 use mathlib.Core.Path.{◌≡◌, sym, ◌∙◌}
 use mathlib.Core.Bool.{true}
-use borrow.Author.Rules.{rules}
 use borrow.Author.Tests.{not-true, not-false, lt-ltb, le-ltb, eq-eqb, ne_eqb}
 use Rattle.codes.specs.Allocation.{one_or_two, bad_frame_or_half}
 use Rattle.codes.proofs.burst.is_bad_frame_or_half.Goals as goal

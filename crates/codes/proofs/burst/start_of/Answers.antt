@@ -1,5 +1,4 @@
 -- `start_of` meets its contract. Assumes nothing.
-use borrow.Author.Rules.{rules}
 use borrow.Author.Tests.{le-leb, lt-leb, lt-ltb, le-ltb}
 use Rattle.codes.proofs.burst.start_of.Goals as goal
 

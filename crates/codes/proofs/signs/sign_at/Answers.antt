@@ -1,5 +1,4 @@
 -- `sign_at` meets its contract. Assumes nothing.
-use borrow.Author.Rules.{rules}
 use borrow.Author.Tests.{lt-ltb, le-ltb, eq-eqb, ne_eqb}
 use Rattle.codes.specs.PackedSigns.{sign_bit}
 use Rattle.codes.proofs.signs.sign_at.Goals as goal

@@ -1,7 +1,6 @@
 -- `modulated_part` meets its contract: a sign times a unit. Assumes nothing.
 use mathlib.Core.Path.{sym, ap, ◌∙◌}
 use Prim.Native.Nat.{ℕ}
-use borrow.Author.Rules.{rules}
 use lib.IntN.{ℤ, ◌*ℤ◌}
 use Rattle.complex.specs.Fits.{Within}
 use Rattle.complex.proofs.Ring.{by_components, real-⊗}

@@ -1,6 +1,5 @@
 -- `modulated_parts` meets its contract: a sum of three. Assumes nothing.
 use mathlib.Core.Path.{◌≡◌, sym, ap₂, ◌∙◌, subst}
-use borrow.Author.Rules.{rules}
 use Rattle.complex.specs.Arithmetic.{◌⊕◌}
 use Rattle.complex.specs.Fits.{Fits32}
 use Rattle.complex.proofs.Components.{both-⊕, both_fits}

@@ -1,9 +1,9 @@
 -- `part` meets its contract. The loop's invariant: the first i chips are written. Assumes nothing.
 use mathlib.Core.Path.{◌≡◌, sym, ap, ap₂, ◌∙◌, subst}
-use Prim.Native.Nat.{ℕ, ◌+◌, ◌*◌, ◌≤◌, ◌<◌, ◌-◌}
+use Prim.Native.Nat.{ℕ, ◌+◌, ◌*◌, ◌≤◌, ◌<◌}
 use native.Mathlib.Omega.{arith}
 use borrow.Author.Rules.{rules}
-use lib.IntN.{ℤ, pos, ◌*ℤ◌}
+use lib.IntN.{pos, ◌*ℤ◌}
 use mir.Syntax.{w32}
 use mir.Val.{to_z}
 use Rattle.complex.specs.declared.Complex.{Complex}
@@ -19,7 +19,7 @@ use Rattle.codes.proofs.Rows.{row_within, a_signs_test}
 use Rattle.codes.proofs.Allocations.{AllKnown, allocation_known}
 use Rattle.modulation.specs.SixteenChips.{modulated_parts, part_chip}
 use Rattle.modulation.proofs.BurstParts.{small_units, gained_both, burst_parts, modulated_parts_both}
-use Rattle.modulation.proofs.Blocks.{Filled, filled_none, filled_more, filled_all, block_cong}
+use Rattle.modulation.proofs.Blocks.{filled_none, filled_more, filled_all, block_cong}
 use Rattle.modulation.proofs.burst.part.Goals as goal
 use Rattle.modulation.proofs.burst.part.Goals.{After-a_repeat, After-gained-s, After-modulated_parts-t, Start}
 

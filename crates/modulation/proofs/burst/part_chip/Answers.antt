@@ -1,6 +1,5 @@
 -- `part_chip` meets its contract. Assumes nothing.
 use mathlib.Core.Path.{sym, ◌∙◌}
-use borrow.Author.Rules.{rules}
 use lib.IntN.{ℤ, ◌+ℤ◌, ◌*ℤ◌}
 use Rattle.complex.specs.Fits.{Within}
 use Rattle.complex.proofs.Ring.{by_components}

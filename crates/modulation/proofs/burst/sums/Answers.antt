@@ -1,7 +1,7 @@
 -- `sums` meets its contract: the loop fills the array. Assumes nothing.
 use mathlib.Core.Path.{◌≡◌, ap₂}
 use mathlib.Core.List.{List}
-use Prim.Native.Nat.{ℕ, ◌-◌}
+use Prim.Native.Nat.{ℕ}
 use native.Mathlib.Omega.{arith}
 use lib.IntN.{ℤ, pos, ◌+ℤ◌}
 use lib.ListN.{get_or}
@@ -11,7 +11,7 @@ use mir.Facts.{to_z-of_z}
 use Rattle.complex.specs.Fits.{Bound}
 use Rattle.complex.proofs.Machine.{add_asks}
 use Rattle.complex.proofs.Sizes.{within_add, fits_within}
-use Rattle.modulation.proofs.Blocks.{Row, row_none, row_more, row_all}
+use Rattle.modulation.proofs.Blocks.{row_none, row_more, row_all}
 use Rattle.modulation.proofs.burst.sums.Goals as goal
 
 -- the two entries as the locals hold them, and their sum

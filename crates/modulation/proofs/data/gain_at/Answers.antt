@@ -1,7 +1,6 @@
 -- `gain_at` meets its contract: `node` says where the gain stands. Assumes nothing.
 use mathlib.Core.Path.{ap}
 use Prim.Native.Nat.{ℕ}
-use borrow.Author.Rules.{rules}
 use lib.ListN.{get_or}
 use Rattle.modulation.proofs.data.gain_at.Goals as goal
 

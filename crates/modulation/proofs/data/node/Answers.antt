@@ -1,6 +1,5 @@
 -- `node` meets its contract: each factor's arm computes. Assumes nothing.
 use native.Mathlib.Omega.{arith}
-use borrow.Author.Rules.{rules}
 use Rattle.codes.proofs.Factors.{last_factor}
 use Rattle.modulation.proofs.data.node.Goals as goal
 

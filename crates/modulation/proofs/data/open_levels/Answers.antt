@@ -1,5 +1,4 @@
 -- `open_levels` meets its contract: one answer a level. Assumes nothing.
-use borrow.Author.Rules.{rules}
 use Rattle.modulation.proofs.data.open_levels.Goals as goal
 
 pub returns : goal.returns

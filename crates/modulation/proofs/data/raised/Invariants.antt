@@ -1,8 +1,5 @@
-use Prim.Native.Nat.{◌-◌}
-use native.Mathlib.Omega.{arith}
-use borrow.Author.Rules.{rules}
 use Rattle.modulation.specs.SixteenChips.{raised}
-use Rattle.modulation.proofs.Blocks.{Row, row_none, row_more, row_all}
+use Rattle.modulation.proofs.Blocks.{Row}
 use Rattle.modulation.proofs.data.raised.Given as goal
 
 abbrev pub invariant-loop-i : goal.invariant-loop-i

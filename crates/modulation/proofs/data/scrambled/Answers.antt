@@ -1,9 +1,7 @@
 -- `scrambled` meets its contract: the loop fills the array. Assumes nothing.
-use Prim.Native.Nat.{◌-◌}
 use native.Mathlib.Omega.{arith}
 use borrow.Author.Rules.{rules}
-use Rattle.modulation.specs.SixteenChips.{scrambled}
-use Rattle.modulation.proofs.Blocks.{Row, row_none, row_more, row_all}
+use Rattle.modulation.proofs.Blocks.{row_none, row_more, row_all}
 use Rattle.modulation.proofs.data.scrambled.Goals as goal
 
 pub loop-i-init : goal.loop-i-init

@@ -11,7 +11,6 @@ use mir.Val.{SFits, to_z, of_z}
 use mir.Facts.{to_z-of_z}
 use Rattle.complex.specs.Fits.{Bound, Within}
 use Rattle.complex.proofs.Sizes.{fits_within}
-
 use Rattle.modulation.proofs.data.scrambled_entry.Goals as goal
 use Rattle.modulation.proofs.data.scrambled_entry.Goals.{Start}
 

@@ -1,6 +1,6 @@
 -- `scrambling_signs` meets its contract: the loop fills both arrays. Assumes nothing.
 use mathlib.Core.Path.{◌≡◌, sym, subst, ap, ◌∙◌}
-use Prim.Native.Nat.{◌+◌, ◌-◌}
+use Prim.Native.Nat.{◌+◌}
 use native.Mathlib.Omega.{arith}
 use borrow.Author.Rules.{rules}
 use lib.IntN.{ℤ}
@@ -13,8 +13,7 @@ use Rattle.complex.proofs.Sizes.{fits_within}
 use Rattle.codes.specs.PackedSigns.{signed_by_j}
 use Rattle.codes.specs.Scrambling.{v}
 use Rattle.codes.proofs.Rows.{v_within}
-use Rattle.modulation.specs.SixteenChips.{scrambling_signs}
-use Rattle.modulation.proofs.Blocks.{Filled, filled_none, filled_all, row_more}
+use Rattle.modulation.proofs.Blocks.{filled_none, filled_all, row_more}
 use Rattle.modulation.proofs.ScramblingSigns.{scrambling_signs_are}
 use Rattle.modulation.proofs.data.scrambling_signs.Goals as goal
 use Rattle.modulation.proofs.data.scrambling_signs.Goals.{After-sign-v}

@@ -1,13 +1,10 @@
 -- `symbols` meets its contract: the loop fills the array. Assumes nothing.
 use mathlib.Core.Path.{ap, ◌∙◌}
-use Prim.Native.Nat.{◌+◌, ◌-◌}
 use native.Mathlib.Omega.{arith}
 use borrow.Author.Rules.{rules}
-use lib.ListN.{get_or}
 use Rattle.complex.specs.declared.Complex.{Complex}
 use Rattle.modulation.specs.SixteenChips.{component}
-use Rattle.modulation.specs.Symbols.{symbol}
-use Rattle.modulation.proofs.Blocks.{Row, row_none, row_more, row_all}
+use Rattle.modulation.proofs.Blocks.{row_none, row_more, row_all}
 use Rattle.modulation.proofs.data.symbols.Goals as goal
 
 pub loop-i-init : goal.loop-i-init

@@ -1,6 +1,6 @@
 -- `with_own` meets its contract: the loop fills the array. Assumes nothing.
 use mathlib.Core.Path.{◌≡◌}
-use Prim.Native.Nat.{ℕ, ◌+◌, ◌-◌, ◌≤◌}
+use Prim.Native.Nat.{◌≤◌}
 use native.Mathlib.Omega.{arith}
 use borrow.Author.Rules.{rules}
 use lib.IntN.{ℤ, pos}
@@ -8,11 +8,9 @@ use lib.ListN.{get_or}
 use mir.Syntax.{w32}
 use mir.Val.{SFits, to_z, of_z}
 use mir.Facts.{to_z-of_z}
-use Rattle.complex.specs.Fits.{Bound}
 use Rattle.complex.proofs.Bounds.{bound_zeros, bound_set}
 use Rattle.complex.proofs.Sizes.{fits_within}
-use Rattle.modulation.specs.SixteenChips.{with_own}
-use Rattle.modulation.proofs.Blocks.{Row, row_none, row_more, row_all}
+use Rattle.modulation.proofs.Blocks.{row_none, row_more, row_all}
 use Rattle.modulation.proofs.Levels.{with_own_is, with_own_within}
 use Rattle.modulation.proofs.data.with_own.Goals as goal
 use Rattle.modulation.proofs.data.with_own.Goals.{In-loop-i}

@@ -11,7 +11,6 @@ use Rattle.complex.specs.declared.Complex.{Complex}
 use Rattle.complex.specs.Arithmetic.{𝟎}
 use Rattle.slot.specs.FieldBlocks.{chip_by_blocks}
 use Rattle.slot.proofs.Pieces.{two_parts}
-use borrow.Author.Rules.{rules}
 use Rattle.slot.proofs.field.write_half.Goals as goal
 
 pub slice_bounds-write_field-end-2 : goal.slice_bounds-write_field-end-2

@@ -1,7 +1,6 @@
 -- `write_part` meets its contract: the block's chips and the burst's, summed and put. Assumes nothing.
 use mathlib.Core.Path.{refl, ap}
 use Prim.Native.Nat.{ℕ}
-use borrow.Author.Rules.{rules}
 use Rattle.complex.specs.declared.Complex.{Complex}
 use Rattle.complex.specs.Arithmetic.{◌⊕◌}
 use Rattle.complex.specs.Buffers.{value}

@@ -1,10 +1,9 @@
 -- `write_silence` meets its contract. The loop's invariant: the first i entries of the part are written. Assumes nothing.
-use mathlib.Core.Path.{◌≡◌, refl, ◌∙◌}
-use Prim.Native.Nat.{◌≤◌, ◌-◌}
+use mathlib.Core.Path.{refl, ◌∙◌}
 use native.Mathlib.Omega.{arith}
 use lib.IntN.{pos}
-use lib.ListN.{length, set, length-set}
-use Rattle.complex.specs.Buffers.{listed, written}
+use lib.ListN.{set, length-set}
+use Rattle.complex.specs.Buffers.{listed}
 use Rattle.complex.proofs.Lists.{one_more_written}
 use Rattle.slot.proofs.Pieces.{filled}
 use Rattle.slot.proofs.field.write_silence.Goals as goal

@@ -1,6 +1,5 @@
 -- `write_whole` meets its contract: the block's chips, put from its first on. Assumes nothing.
 use mathlib.Core.Path.{ap}
-use borrow.Author.Rules.{rules}
 use Rattle.complex.specs.declared.Complex.{Complex}
 use Rattle.modulation.specs.declared.Block.{Block}
 use Rattle.modulation.specs.SixteenChips.{block_chip}

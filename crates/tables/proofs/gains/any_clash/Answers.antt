@@ -1,12 +1,9 @@
 -- `any_clash` meets its contract. The loop's invariant: `found` is the answer for the codes looked at. Assumes nothing.
 use mathlib.Core.Path.{◌≡◌, refl, ◌∙◌}
 use mathlib.Core.Bool.{◌||◌}
-use mathlib.Core.Logic.{⊎_elim}
-use Prim.Native.Nat.{◌≤◌, ◌-◌}
 use native.Mathlib.Numerals.{add-one}
 use native.Mathlib.Omega.{arith}
 use Rattle.codes.specs.Range.{any}
-use Rattle.tables.specs.OpenCodes.{clashes}
 use Rattle.tables.proofs.gains.any_clash.Goals as goal
 use Rattle.tables.proofs.gains.any_clash.Goals.{Joined-clashes, else-clashes, then-clashes}
 

@@ -1,6 +1,5 @@
 -- `clashes` meets its contract. Assumes nothing.
 use mathlib.Core.Path.{sym, ◌∙◌}
-use borrow.Author.Rules.{rules}
 use Rattle.tables.proofs.gains.clashes.Goals as goal
 
 pub returns-then-is_open : goal.returns-then-is_open

@@ -1,5 +1,4 @@
 -- `is_open` meets its contract. Assumes nothing.
-use borrow.Author.Rules.{rules}
 use Rattle.tables.proofs.gains.is_open.Goals as goal
 
 pub returns : goal.returns

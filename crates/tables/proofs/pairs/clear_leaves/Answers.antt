@@ -1,14 +1,11 @@
 -- `clear_leaves` meets its contract. The loops' invariant: the entries passed are kept or cleared, by their leaf. Assumes nothing.
 use mathlib.Core.Path.{◌≡◌}
-use mathlib.Core.Bool.{Bool, false, cond}
-use mathlib.Core.List.{List}
-use Prim.Native.Nat.{ℕ, ◌+◌, ◌*◌, ◌-◌, ◌%◌, ◌≤◌}
+use Prim.Native.Nat.{◌+◌, ◌*◌, ◌%◌}
 use native.Mathlib.Nat.{add-zero}
 use native.Mathlib.Omega.{arith}
-use borrow.Author.Rules.{rules}
-use lib.ListN.{length, get_or, length-set}
+use lib.ListN.{get_or, length-set}
 use Rattle.tables.specs.PairChanges.{cleared}
-use Rattle.tables.proofs.Entries.{Became, passed, all_entries, none_passed, one_more_passed, all_passed}
+use Rattle.tables.proofs.Entries.{all_entries, none_passed, one_more_passed, all_passed}
 use Rattle.tables.proofs.pairs.clear_leaves.Invariants.{kept}
 use Rattle.tables.proofs.pairs.clear_leaves.Goals as goal
 

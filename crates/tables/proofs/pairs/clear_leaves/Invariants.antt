@@ -1,13 +1,9 @@
 use mathlib.Core.Path.{◌≡◌}
 use mathlib.Core.Bool.{Bool, false, cond}
 use mathlib.Core.List.{List}
-use Prim.Native.Nat.{ℕ, ◌+◌, ◌*◌, ◌-◌, ◌%◌, ◌≤◌}
-use native.Mathlib.Nat.{add-zero}
-use native.Mathlib.Omega.{arith}
-use borrow.Author.Rules.{rules}
-use lib.ListN.{length, get_or, length-set}
-use Rattle.tables.specs.PairChanges.{cleared}
-use Rattle.tables.proofs.Entries.{Became, passed, all_entries, none_passed, one_more_passed, all_passed}
+use Prim.Native.Nat.{ℕ, ◌+◌, ◌*◌, ◌%◌, ◌≤◌}
+use lib.ListN.{length, get_or}
+use Rattle.tables.proofs.Entries.{Became, passed}
 use Rattle.tables.proofs.pairs.clear_leaves.Given as goal
 
 -- an entry after the pass
@@ -20,4 +16,3 @@ invariant-loop-i l = (l.i ≤ 16) × (length l.all ≡ 2208)
 
 abbrev pub invariant-loop-m : goal.invariant-loop-m
 invariant-loop-m l = (l.m ≤ 138) × (length l.all ≡ 2208) × Became (passed (kept l.leaves) (16 * l.m)) l.initial.all l.all
-

@@ -1,6 +1,5 @@
 -- `clear_open` meets its contract. Assumes nothing.
 use mathlib.Core.Path.{◌∙◌}
-use borrow.Author.Rules.{rules}
 use Rattle.tables.proofs.Cleared.{all_cleared}
 use Rattle.tables.proofs.pairs.clear_open.Goals as goal
 

@@ -1,7 +1,6 @@
 -- `inner_pair` meets its contract. Assumes nothing.
 use Prim.Native.Nat.{ℕ, ◌+◌, ◌*◌, ◌≤◌}
 use native.Mathlib.Omega.{arith}
-use borrow.Author.Rules.{rules}
 use lib.ListN.{get_or}
 use Rattle.tables.proofs.Blocks.{is_bit}
 use Rattle.tables.proofs.pairs.inner_pair.Goals as goal

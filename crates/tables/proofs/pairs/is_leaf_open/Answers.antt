@@ -3,7 +3,6 @@ use mathlib.Core.Path.{◌≡◌}
 use mathlib.Core.Bool.{◌||◌}
 use Prim.Native.Nat.{◌/◌}
 use native.Mathlib.Omega.{arith}
-use borrow.Author.Rules.{rules}
 use Rattle.modulation.specs.Nodes.{open_at}
 use Rattle.tables.specs.OpenCodes.{is_leaf_open}
 use Rattle.tables.proofs.pairs.is_leaf_open.Goals as goal

@@ -1,11 +1,9 @@
 -- `open_leaves` meets its contract. The loop's invariant: the leaves passed are in the array. Assumes nothing.
 use mathlib.Core.Path.{◌≡◌, refl, ◌∙◌}
-use Prim.Native.Nat.{◌-◌, ◌≤◌}
 use native.Mathlib.Omega.{arith}
 use lib.ListN.{set}
-use Rattle.complex.specs.Buffers.{listed, written}
+use Rattle.complex.specs.Buffers.{listed}
 use Rattle.complex.proofs.Lists.{one_more_written, all_written}
-use Rattle.tables.specs.OpenCodes.{is_leaf_open}
 use Rattle.tables.proofs.pairs.open_leaves.Goals as goal
 
 pub loop-l-init : goal.loop-l-init

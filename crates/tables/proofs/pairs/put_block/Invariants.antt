@@ -1,12 +1,9 @@
 use mathlib.Core.Path.{◌≡◌}
-use Prim.Native.Nat.{◌+◌, ◌-◌, ◌≤◌}
-use native.Mathlib.Omega.{arith}
-use lib.ListN.{length, length-set}
+use Prim.Native.Nat.{◌+◌, ◌≤◌}
+use lib.ListN.{length}
 use Rattle.modulation.specs.Symbols.{pair}
-use Rattle.tables.specs.PairChanges.{with_part}
-use Rattle.tables.proofs.Entries.{Became, part, all_entries, no_part, one_more_in_part}
+use Rattle.tables.proofs.Entries.{Became, part}
 use Rattle.tables.proofs.pairs.put_block.Given as goal
 
 abbrev pub invariant-loop-i : goal.invariant-loop-i
 invariant-loop-i l = (l.i ≤ 16) × (length l.all ≡ 2208) × Became (part l.at (λ j. pair l.bits (l.n + j)) l.i) l.initial.all l.all
-

@@ -1,12 +1,9 @@
 -- `put_pairs` meets its contract. The loop's invariant: the first i entries of the part are written. Assumes nothing.
 use mathlib.Core.Path.{◌≡◌}
-use Prim.Native.Nat.{◌+◌, ◌-◌, ◌≤◌}
 use native.Mathlib.Omega.{arith}
-use borrow.Author.Rules.{rules}
-use lib.ListN.{length, length-set}
-use Rattle.modulation.specs.Symbols.{pair}
+use lib.ListN.{length-set}
 use Rattle.tables.specs.PairChanges.{with_part}
-use Rattle.tables.proofs.Entries.{Became, part, all_entries, no_part, one_more_in_part}
+use Rattle.tables.proofs.Entries.{part, all_entries, no_part, one_more_in_part}
 use Rattle.tables.proofs.pairs.put_pairs.Goals as goal
 
 pub loop-i-init : goal.loop-i-init

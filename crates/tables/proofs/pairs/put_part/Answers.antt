@@ -1,5 +1,4 @@
 -- `put_part` meets its contract. Assumes nothing.
-use borrow.Author.Rules.{rules}
 use Rattle.tables.proofs.pairs.put_part.Goals as goal
 
 pub returns-then-n-bits : goal.returns-then-n-bits

@@ -1,15 +1,12 @@
 -- `set_bits` meets its contract. The loop's invariant: the first m blocks are written; the length of an array behind a reference is known
 -- from the first `put_part` on. Assumes nothing.
 use mathlib.Core.Path.{◌≡◌}
-use Prim.Native.Nat.{◌+◌, ◌*◌, ◌-◌, ◌≤◌, ◌<◌}
+use Prim.Native.Nat.{◌+◌, ◌*◌, ◌≤◌, ◌<◌}
 use native.Mathlib.Nat.{mul-le-mul_right}
 use native.Mathlib.Omega.{arith}
-use borrow.Author.Rules.{rules}
-use lib.ListN.{length}
-use Rattle.modulation.specs.Symbols.{pair}
 use Rattle.tables.specs.Bits.{pairs_with_bits}
 use Rattle.tables.proofs.Blocks.{pairs_in_block}
-use Rattle.tables.proofs.Entries.{Became, blocks, all_entries, no_block, one_more_block, all_blocks}
+use Rattle.tables.proofs.Entries.{all_entries, no_block, one_more_block, all_blocks}
 use Rattle.tables.proofs.pairs.set_bits.Goals as goal
 use Rattle.tables.proofs.pairs.set_bits.Goals.{After-width-w, In-loop-m}
 
