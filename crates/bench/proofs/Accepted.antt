@@ -6,9 +6,7 @@ use mathlib.Core.List.{List, ◌∷◌, ◌++◌}
 use Prim.Native.Nat.{ℕ, ◌≤◌, ◌<◌}
 use borrow.Author.Tests.{lt-ltb, leb-false, not-false}
 use lib.Dec.{T, leb, leb→le}
-use mir.Facts.{and_yes, Fits-below}
-use mir.Syntax.{w16}
-use mir.Val.{Fits}
+use mir.Facts.{and_yes}
 use Rattle.codes.specs.Refusals.{refused, gives, Refusal, ◌otherwise◌, outcome, refusal_number, ◌if◌}
 use Rattle.codes.specs.Tree.{is_spreading_factor}
 use Rattle.codes.proofs.Refused.{numbered, Passed, passed, accepted, not_accepted, refused_early, passed_early}
@@ -58,9 +56,6 @@ pub gain_range : (g : ℕ) → bad_gain g ≡ false → (1 ≤ g) × (g ≤ 4095
 gain_range g e =
     let t = and_yes (leb 1 g) (leb g 4095) (subst T (sym (not-false (leb 1 g && leb g 4095) e)) tt) in
     (leb→le 1 g t.0, leb→le g 4095 t.1)
-
-pub gain_fits : (g : ℕ) → bad_gain g ≡ false → Fits w16 g
-gain_fits g e = Fits-below {n = 4095} tt (gain_range g e).1
 
 -- ---- what 3, 4 and 5 let pass is what `with_gain` asks
 pub code_and_gain : (Q k g : ℕ) (rs : List Refusal) → Passed (3 if not (is_spreading_factor Q) ∷ 4 if leb Q k ∷ 5 if bad_gain g ∷ rs)

@@ -3,14 +3,14 @@ use mathlib.Core.Path.{◌≡◌, refl, sym, ap, ◌∙◌}
 use mathlib.Core.Logic.{◌≢◌}
 use mathlib.Core.Bool.{Bool, not}
 use mathlib.Core.List.{List, [], ◌∷◌}
-use Prim.Native.Nat.{ℕ, suc, ◌+◌, ◌<◌, ◌≤◌, min}
+use Prim.Native.Nat.{ℕ, suc, ◌+◌, ◌<◌, ◌≤◌}
 use native.Mathlib.Decide.{ℕ_discrete}
 use native.Mathlib.Numerals.{add-one}
 use native.Mathlib.Omega.{arith}
 use borrow.Author.Tests.{eq-eqb, ne_eqb}
 use lib.Dec.{leb}
-use lib.ListN.{length, get_or, take, drop, replicate, length-set, length-take, drop_of_length-le}
-use lib.Seq.{drop-cons, take-length, take-take}
+use lib.ListN.{length, get_or, drop, replicate, length-set, drop_of_length-le}
+use lib.Seq.{drop-cons}
 use Rattle.codes.specs.Range.{any}
 use Rattle.codes.specs.Refusals.{Answer, gives, refused, Refusal, ◌if◌, ◌otherwise◌, refusal_number}
 use Rattle.codes.specs.Tree.{is_spreading_factor}
@@ -23,17 +23,12 @@ use Rattle.tables.specs.OpenCodes.{clashes}
 use Rattle.tables.proofs.Cleared.{one_more_open}
 use Rattle.bench.specs.declared.Bench.{Bench}
 use Rattle.bench.specs.declared.Channel.{Channel}
-use Rattle.bench.specs.declared.Planned.{Planned}
 use Rattle.bench.specs.declared.taken.Taken.{Taken}
-use Rattle.bench.specs.BenchCalls.{AnswerAt, bad_gain, fresh_settings, load_plan_call, open_refusals, opened_in_order, plan_left_by, plan_outcome, refused_at, some_code, answer_of_plan}
+use Rattle.bench.specs.BenchCalls.{AnswerAt, bad_gain, fresh_settings, load_plan_call, open_refusals, opened_in_order, refused_at, some_code}
 use Rattle.bench.specs.Changes.{with_bits, with_gain, with_gains, with_pairs, with_settings}
 use Rattle.bench.specs.Taken.{all_opened, gains_after, none_taken, open_number, settled, with_opened, with_record, with_records}
 use Rattle.bench.proofs.Accepted.{gain_range, good_code}
 use Rattle.bench.proofs.Opened.{related_in_gains}
-
--- what the contract of a load says of its result r: a is the answer, and b the bench that it took
-abbrev pub Answers : AnswerAt Bench → Bench → Planned → Type 0
-Answers a b r = (answer_of_plan r.answer ≡ plan_outcome a) × (r.bench ≡ plan_left_by a b)
 
 -- once a record failed, the rest changes nothing
 module _ (t : Taken) (d : t.number ≢ 0) where
@@ -133,9 +128,3 @@ unfolding with_records
 all_taken b t ys i l e =
     let ends : with_records t i (drop i ys) ≡ t = rw (drop_of_length-le ys {i = i} l) in
     ap (settled b) (sym ends ∙ e) ∙ plan_settled b ys
-
--- up to the smaller of a count and their number, they are those up to the count
-pub up_to_smaller : (count : ℕ) (ys : List Channel) {n m : ℕ} → n ≡ min count m → length ys ≡ m → take n ys ≡ take count ys
-up_to_smaller count ys e l =
-    let h : take (min count (length ys)) (take count ys) ≡ take count ys = rw (← length-take count ys) (take-length (take count ys)) in
-    rw (e, ← l) (sym (take-take (min count (length ys)) count ys (omega arith)) ∙ h)

@@ -30,9 +30,6 @@ pub record Cuts (t : Parts) (from n a b c : ℕ) : Type 0 where
 later : (from n x y a b : ℕ) → a ≡ min (x - from) n → b ≡ min (y - from) n → x ≤ y → a ≤ b
 later from n x y a b p q h = omega arith
 
-pub cut_small : (from n x a : ℕ) → a ≡ min (x - from) n → x ≤ 2560 → a ≤ 2560
-cut_small from n x a p h = omega arith
-
 cut_inside : (from x d a b : ℕ) → a ≡ x - from → b ≤ x + d - from → 0 < b - a → from - x + (b - a) ≤ d
 cut_inside from x d a b p q h = omega arith
 
