@@ -121,9 +121,6 @@ bounded_more s n b v m h u =
     }
 
 -- ---- the lowest of a block
-pub covers_none : (x y : List ℤ) (from : ℕ) → Covers x y from 0 (pos 0)
-covers_none x y from = record { sign = refl; size = record { size = omega arith }; each = λ i l. absurd (omega arith) }
-
 -- a number that is not positive has no positive part
 none_positive : (y : ℤ) → le_z y (pos 0) ≡ true → pos_part y ≡ 0
 none_positive (pos n) h = omega (arith, le_z_true (pos n) (pos 0) h)

@@ -1,41 +1,26 @@
 -- `find` meets its contract: its refusals, or the peak. Assumes nothing.
-use mathlib.Core.Path.{◌≡◌, refl, sym, ap, ◌∙◌, subst}
+use mathlib.Core.Path.{sym, ◌∙◌}
 use mathlib.Core.List.{List}
-use Prim.Native.Nat.{ℕ, ◌-◌}
-use borrow.Author.Rules.{rules}
+use Prim.Native.Nat.{◌-◌}
 use borrow.Author.Tests.{eqb-true, ltb-false, not-false}
 use lib.Dec.{eqb, ltb}
-use lib.IntN.{ℤ}
 use lib.ListN.{length}
-use Rattle.codes.specs.Refusals.{Answer, refused, gives, Refusal}
-use Rattle.codes.proofs.Refused.{numbered, Passed, passed, accepted, not_accepted}
+use Rattle.codes.specs.Refusals.{Refusal}
+use Rattle.codes.proofs.Refused.{numbered, Passed, passed}
 use Rattle.codes.proofs.Tests.{neither}
 use Rattle.analyser_parts.specs.Components.{outside}
 use Rattle.analyser_parts.proofs.Ranges.{not_outside}
-use Rattle.find.specs.declared.Peak.{Peak}
-use Rattle.find.specs.Finding.{find_refusals, ScratchLeft}
+use Rattle.find.specs.Finding.{find_refusals}
 use Rattle.find.proofs.find.Goals as goal
 use Rattle.find.proofs.find.Goals.{Else-number-ne0, Start}
 
 abbrev refusals : Start → List Refusal
 refusals c = let s = c.args in find_refusals s.re.now s.im.now (length s.sumre.now) (length s.sumim.now)
 
--- the scratch buffers after a refusal and after an accepted call
-kept : {a : Answer Peak} {n : ℕ} (l : List ℤ) → a ≡ refused n → ScratchLeft a l l
-kept l e = subst (λ (a : Answer Peak). ScratchLeft a l l) (sym e) refl
-
-free : {a : Answer Peak} {p : Peak} (l m : List ℤ) → a ≡ gives p → length m ≡ length l → ScratchLeft a l m
-free l m e h = subst (λ (a : Answer Peak). ScratchLeft a l m) (sym e) h
-
 -- what the tests leave
 tests : (c : Else-number-ne0) → Passed (refusals c.before.before)
 unfolding numbered
 tests c = passed (refusals c.before.before) tt (sym c.refusal-number.ensures ∙ c.if-number-ne0.false)
-
-pub returns-then-number-ne0 : goal.returns-then-number-ne0
-returns-then-number-ne0 c =
-    let e = not_accepted _ (refusals (goal.at.returns-then-number-ne0 c).Start) (λ z. c.if-number-ne0.true (c.refusal-number.ensures ∙ z)) in
-    record { answer = ap refused c.refusal-number.ensures ∙ sym e; real = kept c.args.sumre.now e; imaginary = kept c.args.sumim.now e }
 
 pub peak-requires : goal.peak-requires
 peak-requires c =
@@ -53,9 +38,3 @@ peak-requires c =
       not_outside s.re.now inside.0,
       not_outside s.im.now inside.1,
     )
-
-pub returns : goal.returns
-unfolding numbered
-returns c =
-    let e = accepted _ (refusals (goal.at.returns c).Start) tt (sym c.refusal-number.ensures ∙ c.if-number-ne0.false) in
-    record { answer = ap gives c.peak.ensures ∙ sym e; real = free _ _ e (search rules); imaginary = free _ _ e (search rules) }

@@ -1,5 +1,4 @@
 -- `block` meets its contract: a start that counts is no larger than the best where its block is passed over. Assumes nothing.
-use mathlib.Core.Logic.{⊎_elim}
 use Prim.Native.Nat.{◌+◌}
 use native.Mathlib.Omega.{arith}
 use borrow.Author.Rules.{rules}
@@ -29,6 +28,6 @@ returns c =
     let low = le_z_true c.args.floor x t in
     le_le_z x y
     (elim c.else-floor-bound.branch [
-      else-floor-bound-via-then-floor-bound+else-best-bound w ↦ let e = rw (to_z-of_z f, bound, own) at w.if-best-bound.false in omega (arith, lt_z_false, le_z_false)
-    | else-floor-bound-via-else-floor-bound w ↦ let e = rw (to_z-of_z c.ranges.floor, bound) at w.if-floor-bound.false in omega (arith, lt_z_false, le_z_false)
+      | else-floor-bound-via-then-floor-bound+else-best-bound w ↦ let e = rw (to_z-of_z f, bound, own) at w.if-best-bound.false in omega (arith, lt_z_false, le_z_false)
+      | else-floor-bound-via-else-floor-bound w ↦ let e = rw (to_z-of_z c.ranges.floor, bound) at w.if-floor-bound.false in omega (arith, lt_z_false, le_z_false)
     ]))

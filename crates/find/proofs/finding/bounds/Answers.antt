@@ -1,18 +1,17 @@
 -- `bounds` meets its contract. The loop's invariant: the entries of the blocks passed bound their sizes. Assumes nothing.
-use mathlib.Core.Path.{◌≡◌, refl, sym, ◌∙◌, subst}
+use mathlib.Core.Path.{◌≡◌, sym, ◌∙◌, subst}
 use mathlib.Core.Bool.{true}
-use Prim.Native.Nat.{◌+◌, ◌*◌, ◌-◌, ◌/◌, ◌≤◌}
+use Prim.Native.Nat.{◌+◌, ◌*◌}
 use native.Mathlib.Omega.{arith}
 use borrow.Author.Rules.{rules}
 use lib.IntN.{ℤ}
-use lib.ListN.{length, length-set}
+use lib.ListN.{length-set}
 use lib.Signed.{le_z}
 use mir.Syntax.{w32, w64}
 use mir.Val.{SFits, to_z, of_z}
 use mir.Facts.{to_z-of_z}
 use Rattle.complex.specs.Arithmetic.{◌+j◌, squared_size}
-use Rattle.analyser_parts.proofs.Products.{held}
-use Rattle.find.specs.PeakSearch.{Bounded, sizes}
+use Rattle.find.specs.PeakSearch.{sizes}
 use Rattle.find.proofs.Blocks.{bounded_more, size_least}
 use Rattle.find.proofs.finding.bounds.Goals as goal
 use Rattle.find.proofs.finding.bounds.Goals.{After-lowest-low}
@@ -20,12 +19,6 @@ use Rattle.find.proofs.finding.bounds.Goals.{After-lowest-low}
 -- the lowest, as the local holds it
 low_is : (c : After-lowest-low) → to_z w32 (of_z w32 c.lowest-low.result) ≡ c.lowest-low.result
 low_is c = let f : SFits w32 c.lowest-low.result = search rules in to_z-of_z f
-
-pub loop-k-init : goal.loop-k-init
-loop-k-init c = (omega arith, refl, record { each = λ k l. absurd (omega arith) })
-
-pub squared-requires : goal.squared-requires
-squared-requires c = let h = held (low_is c) c.lowest-low.ensures.size in record { re = h; im = h }
 
 pub loop-k-preserved : goal.loop-k-preserved
 loop-k-preserved c =
@@ -37,9 +30,3 @@ loop-k-preserved c =
       bounded_more _ l.k l.all _ (omega (arith, l.invariant.1)) l.invariant.2
           (λ i m. subst (λ (z : ℤ). le_z (sizes c.args.re.now c.args.im.now (l.k * 32 + i)) z ≡ true) (sym value_is) (size_least _ _ c.lowest-low.result (omega (arith, c.lowest-low.ensures.each i m)))),
     )
-
-pub returns : goal.returns
-returns c =
-    let l = c.loop-k in
-    let e : l.k ≡ length c.args.re.now / 32 = omega arith in
-    rw e at l.invariant.2

@@ -1,7 +1,7 @@
 -- `correlate` meets its contract: the buffers hold the steps of the Golay sequence. Assumes nothing.
-use mathlib.Core.Path.{◌≡◌, sym, ap, ◌∙◌, subst}
+use mathlib.Core.Path.{◌≡◌, ap, ◌∙◌, subst}
 use mathlib.Core.List.{List}
-use Prim.Native.Nat.{ℕ, ◌+◌, ◌-◌, ◌<◌, ◌≤◌}
+use Prim.Native.Nat.{ℕ, ◌+◌, ◌-◌, ◌≤◌}
 use native.Mathlib.Omega.{arith}
 use borrow.Author.Rules.{rules}
 use lib.Dec.{lit≤}
@@ -10,7 +10,6 @@ use lib.ListN.{length, take}
 use Rattle.complex.specs.Buffers.{listed, written, ◌at◌}
 use Rattle.complex.specs.Fits.{Within, Bound}
 use Rattle.find.specs.PeakSearch.{four_of}
-use Rattle.complex.proofs.Bounds.{bound_more}
 use Rattle.complex.proofs.Lists.{length_listed, listed_at, take_written}
 use Rattle.find.proofs.Golay.{bound_held, entry_held, four_held, four_within, minus_pairs, plus_pairs, step_1, step_2, whole_held}
 use Rattle.find.proofs.finding.correlate.Goals as goal
@@ -42,16 +41,6 @@ module _ (x : List ℤ) (long : 256 ≤ length x) where
 second_within : {x : List ℤ} → Bound 100000 x → (i : ℕ) → Within 1600000 (step_2 x i)
 unfolding ◌at◌
 second_within h i = four_within (λ k. four_within h.at 1 8 9 k) 2 4 6 i
-
--- ---- the same at the calls
-pub sums-requires : goal.sums-requires
-sums-requires c =
-    (omega arith, omega arith, omega arith, omega arith, omega arith, bound_more c.requires.4 400000 (lit≤ tt))
-
-pub slice_bounds-sums-length : goal.slice_bounds-sums-length
-slice_bounds-sums-length c =
-    let x = c.args.x.now in
-    sym (ap length (first_holds x _ c.sums.ensures) ∙ length_listed (step_1 x) (length x - 9))
 
 pub sums-requires-2 : goal.sums-requires-2
 unfolding ◌at◌

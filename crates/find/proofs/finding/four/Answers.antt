@@ -4,7 +4,7 @@ use lib.IntN.{◌+ℤ◌, ◌-ℤ◌}
 use mir.Syntax.{w32}
 use mir.Val.{SFits, to_z, of_z}
 use mir.Facts.{to_z-of_z}
-use Rattle.complex.proofs.Machine.{add_asks, add_gives}
+use Rattle.complex.proofs.Machine.{add_gives}
 use Rattle.complex.proofs.Sizes.{fits_within, within_add, within_sub}
 use Rattle.find.proofs.finding.four.Goals as goal
 use Rattle.find.proofs.finding.four.Goals.{Start}
@@ -24,15 +24,6 @@ module _ (c : Start) where
 
   whole : SFits w32 (c.args.p +ℤ c.args.q +ℤ (c.args.r -ℤ c.args.s))
   whole = fits_within (within_add (within_add c.requires.0 c.requires.1) (within_sub c.requires.2 c.requires.3)) tt
-
-pub overflow_add-result : goal.overflow_add-result
-overflow_add-result c = add_asks c.ranges.p c.ranges.q (sum c)
-
-pub overflow_sub-result : goal.overflow_sub-result
-overflow_sub-result c = difference_asks c
-
-pub overflow_add-result-2 : goal.overflow_add-result-2
-overflow_add-result-2 c = rw (add_gives c.ranges.p c.ranges.q (sum c), difference_is c) (whole c)
 
 pub returns : goal.returns
 returns c = rw (add_gives c.ranges.p c.ranges.q (sum c), difference_is c) (to_z-of_z (whole c))

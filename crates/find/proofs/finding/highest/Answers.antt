@@ -1,7 +1,7 @@
 -- `highest` meets its contract. The loop's invariant: `top` is the largest of the bounds passed. Assumes nothing.
 use mathlib.Core.Path.{refl, sym, subst}
 use mathlib.Core.Bool.{true}
-use Prim.Native.Nat.{◌+◌, ◌-◌, ◌≤◌}
+use Prim.Native.Nat.{◌+◌}
 use native.Mathlib.Omega.{arith}
 use borrow.Author.Rules.{rules}
 use lib.IntN.{pos}
@@ -27,8 +27,3 @@ loop-k-preserved c =
     let b = ◌at◌ c.args.bounds.now in
     let f : SFits w64 (get_or c.args.bounds.now l.k (pos 0)) = search rules in
     (omega arith, subst (PeaksBelow b (λ j. true) c.args.n (l.k + 1)) (sym c.or_later-top.ensures) (one_passed _ _ _ l.k l.top (omega arith) l.invariant.1 _ (to_z-of_z f)))
-
-pub returns : goal.returns
-returns c =
-    let l = c.loop-k in
-    (l.invariant.1.below, λ k h. l.invariant.1.largest k (omega arith) refl)

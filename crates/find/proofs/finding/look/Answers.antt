@@ -1,7 +1,6 @@
 -- `look` meets its contract. The loop's invariant: `found` is the largest of the sizes passed, the earliest of equal ones. Assumes nothing.
 use mathlib.Core.Path.{◌≡◌, sym, ◌∙◌, subst}
-use mathlib.Core.Bool.{Bool}
-use Prim.Native.Nat.{ℕ, ◌+◌, ◌-◌, ◌≤◌}
+use Prim.Native.Nat.{◌+◌}
 use native.Mathlib.Omega.{arith}
 use borrow.Author.Rules.{rules}
 use lib.ListN.{length}
@@ -10,20 +9,9 @@ use mir.Val.{SFits}
 use mir.Facts.{to_z-of_z}
 use Rattle.complex.specs.Buffers.{◌at◌}
 use Rattle.complex.proofs.Sizes.{fits_within}
-use Rattle.analyser_parts.proofs.Products.{held}
 use Rattle.find.specs.PeakSearch.{PeaksBelow, sizes, size_of}
 use Rattle.find.proofs.Blocks.{one_passed}
 use Rattle.find.proofs.finding.look.Goals as goal
-
-pub loop-i-init : goal.loop-i-init
-loop-i-init c = (omega arith, omega arith, λ t h. h)
-
-pub size-requires : goal.size-requires
-size-requires c =
-    let i = c.loop-i.i in
-    let re = held (to_z-of_z {w = w32} (fits_within (c.requires.4.at i) tt)) (c.requires.4.at i) in
-    let im = held (to_z-of_z {w = w32} (fits_within (c.requires.5.at i) tt)) (c.requires.5.at i) in
-    (search rules, search rules)
 
 pub loop-i-preserved : goal.loop-i-preserved
 unfolding ◌at◌

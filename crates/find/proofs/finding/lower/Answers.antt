@@ -25,9 +25,6 @@ asks c = rw (re_is c, im_is c) (fits_within (within_add (lowered_within c.requir
 sum_is : (c : After-lowered-2) → to_z w32 (of_z w32 (to_z w32 (of_z w32 c.lowered.result) +ℤ to_z w32 (of_z w32 c.lowered-2.result))) ≡ lowered_of c.args.re +ℤ lowered_of c.args.im
 sum_is c = to_z-of_z (asks c) ∙ (λ i. re_is c i +ℤ im_is c i)
 
-pub overflow_add-y : goal.overflow_add-y
-overflow_add-y c = asks c
-
 pub returns-then-y-low : goal.returns-then-y-low
 returns-then-y-low c =
     let e = rw (sum_is (goal.at.returns-then-y-low c).After-lowered-2, to_z-of_z c.ranges.low) at c.if-y-low.true in

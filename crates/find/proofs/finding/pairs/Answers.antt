@@ -1,15 +1,15 @@
 -- `pairs` meets its contract. The loop's invariant: the sums passed are in both buffers, and the other entries are as they were. Assumes nothing.
 use mathlib.Core.Path.{◌≡◌, refl, ◌∙◌}
-use Prim.Native.Nat.{ℕ, ◌+◌, ◌-◌, ◌<◌, ◌≤◌}
+use Prim.Native.Nat.{ℕ, ◌+◌, ◌<◌, ◌≤◌}
 use native.Mathlib.Omega.{arith}
 use borrow.Author.Rules.{rules}
 use lib.Dec.{lit≤}
 use lib.IntN.{◌+ℤ◌, ◌-ℤ◌}
-use lib.ListN.{length, set, length-set}
+use lib.ListN.{set, length-set}
 use mir.Syntax.{w32}
 use mir.Val.{SFits, to_z, of_z}
 use mir.Facts.{to_z-of_z}
-use Rattle.complex.specs.Buffers.{listed, written, ◌at◌}
+use Rattle.complex.specs.Buffers.{listed, ◌at◌}
 use Rattle.complex.specs.Fits.{Within}
 use Rattle.complex.proofs.Lists.{one_more_written}
 use Rattle.complex.proofs.Sizes.{within_more}
@@ -68,16 +68,3 @@ loop-i-preserved c =
       (λ j. set (l.invariant.3 j) l.i (v j)) ∙ one_more_written (four_of (◌at◌ old) 32 48 16) _ l.i (omega arith),
       simp length-set l.invariant.4,
     )
-
-pub shape_of-y : goal.shape_of-y
-shape_of-y c = c.loop-i.invariant.2
-
-pub shape_of-t : goal.shape_of-t
-shape_of-t c = c.loop-i.invariant.4
-
-pub returns : goal.returns
-returns c =
-    let e : c.loop-i.i ≡ c.args.count = omega arith in
-    let y = rw e at c.loop-i.invariant.1 in
-    let t = rw e at c.loop-i.invariant.3 in
-    (y, t)

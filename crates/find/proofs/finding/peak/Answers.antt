@@ -36,12 +36,6 @@ module _ (x part : List ℤ) (n : ℕ) (e : part ≡ listed n (primary_sum x)) w
 as_many : (x y : List ℤ) (m n : ℕ) → m ≡ n → take (n - 255) y ≡ listed (n - 255) (primary_sum x) → take (m - 255) y ≡ listed (m - 255) (primary_sum x)
 as_many x y m n e h = rw e h
 
-pub slice_bounds-strongest-length : goal.slice_bounds-strongest-length
-slice_bounds-strongest-length c = sym (part_length _ _ _ c.correlate.ensures.0)
-
-pub slice_bounds-strongest-length-2 : goal.slice_bounds-strongest-length-2
-slice_bounds-strongest-length-2 c = sym (part_length _ _ _ (as_many c.args.im.now c.correlate-2.new.y _ _ c.requires.2 c.correlate-2.ensures.0))
-
 pub strongest-best-requires : goal.strongest-best-requires
 strongest-best-requires c =
     let re = c.correlate.ensures.0 in

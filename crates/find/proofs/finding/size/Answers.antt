@@ -16,9 +16,6 @@ use Rattle.find.proofs.finding.size.Goals.{Start}
 within : (c : Start) → Both 25600000 (to_z w32 (of_z w32 c.args.re) +j to_z w32 (of_z w32 c.args.im))
 within c = record { re = held (to_z-of_z c.ranges.re) c.requires.0; im = held (to_z-of_z c.ranges.im) c.requires.1 }
 
-pub times_one_minus_j-requires : goal.times_one_minus_j-requires
-times_one_minus_j-requires c = within c
-
 pub squared-requires : goal.squared-requires
 squared-requires c = subst (Both 51200000) (sym c.times_one_minus_j.ensures) (one_minus_j_within (within (goal.at.squared-requires c).Start))
 

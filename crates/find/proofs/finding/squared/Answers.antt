@@ -7,7 +7,6 @@ use mir.Val.{SFits, to_z, of_z}
 use mir.Facts.{to_z-of_z}
 use Rattle.complex.specs.Arithmetic.{squared_size}
 use Rattle.analyser_parts.proofs.Products.{products_fit, held}
-
 use Rattle.find.proofs.finding.squared.Goals as goal
 use Rattle.find.proofs.finding.squared.Goals.{After-wide-a, After-wide-b}
 

@@ -1,19 +1,17 @@
 -- `strongest` meets its contract. The loop's invariant: `best` is the largest of the sizes passed that are `least` or more, the earliest of equal
 -- ones. Assumes nothing.
 use mathlib.Core.Path.{◌≡◌, refl, ◌∙◌}
-use Prim.Native.Nat.{◌+◌, ◌*◌, ◌-◌, ◌/◌, ◌≤◌}
+use Prim.Native.Nat.{◌/◌}
 use native.Mathlib.Omega.{arith}
 use borrow.Author.Rules.{rules}
 use lib.IntN.{pos}
 use lib.ListN.{get_or, length}
-use lib.Signed.{le_z}
 use mir.Syntax.{w32, w64}
 use mir.Val.{SFits, to_z, of_z}
 use mir.Facts.{to_z-of_z}
 use Rattle.complex.specs.Buffers.{◌at◌}
 use Rattle.complex.proofs.Sizes.{fits_within}
-use Rattle.analyser_parts.proofs.Products.{held}
-use Rattle.find.specs.PeakSearch.{PeaksBelow, sizes, size_of}
+use Rattle.find.specs.PeakSearch.{sizes, size_of}
 use Rattle.find.proofs.Blocks.{all_passed, none_passed}
 use Rattle.find.proofs.finding.strongest.Goals as goal
 use Rattle.find.proofs.finding.strongest.Goals.{After-size, Start}
@@ -26,10 +24,6 @@ module _ (c : After-size) where
       let im = to_z-of_z {w = w32} (fits_within (c.requires.4.at 0) tt) in
       let f : SFits w64 c.size.result = search rules in
       to_z-of_z f ∙ c.size.ensures ∙ (λ t. size_of (re t) (im t))
-
-pub size-requires : goal.size-requires
-size-requires c =
-    (held (to_z-of_z {w = w32} (fits_within (c.requires.3.at 0) tt)) (c.requires.3.at 0), held (to_z-of_z {w = w32} (fits_within (c.requires.4.at 0) tt)) (c.requires.4.at 0))
 
 pub floor-least-requires : goal.floor-least-requires
 floor-least-requires c =
@@ -45,17 +39,6 @@ block-best-requires c =
     let s = c in
     let f : SFits w64 (get_or c.bounds-most.result c.loop-k.k (pos 0)) = search rules in
     (omega arith, s.requires.1, s.requires.2, s.requires.3, s.requires.4, (λ i m. rw (to_z-of_z f) (c.bounds-most.ensures.each c.loop-k.k (omega arith) i m)), c.loop-k.invariant.1)
-
-pub loop-k-preserved : goal.loop-k-preserved
-loop-k-preserved c =
-    let l = c.loop-k in
-    let e : l.k * 32 + 32 ≡ (l.k + 1) * 32 = omega arith in
-    (omega arith, rw e at c.block-best.ensures)
-
-pub look-requires : goal.look-requires
-look-requires c =
-    let s = c in
-    (omega arith, omega arith, s.requires.1, s.requires.2, s.requires.3, s.requires.4)
 
 pub returns : goal.returns
 returns c =

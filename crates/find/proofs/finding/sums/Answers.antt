@@ -1,20 +1,20 @@
 -- `sums` meets its contract. The loop's invariant: the sums passed are in the buffer. Assumes nothing.
 use mathlib.Core.Path.{◌≡◌, refl, ◌∙◌}
-use Prim.Native.Nat.{ℕ, ◌+◌, ◌-◌, ◌≤◌}
+use Prim.Native.Nat.{ℕ, ◌+◌}
 use native.Mathlib.Omega.{arith}
 use borrow.Author.Rules.{rules}
 use lib.Dec.{lit≤}
 use lib.IntN.{◌+ℤ◌, ◌-ℤ◌}
-use lib.ListN.{length, set, length-set}
+use lib.ListN.{set, length-set}
 use mir.Syntax.{w32}
 use mir.Val.{SFits, to_z, of_z}
 use mir.Facts.{to_z-of_z}
-use Rattle.complex.specs.Buffers.{listed, written, ◌at◌}
+use Rattle.complex.specs.Buffers.{listed, ◌at◌}
 use Rattle.complex.specs.Fits.{Within}
 use Rattle.complex.proofs.Lists.{one_more_written}
 use Rattle.complex.proofs.Sizes.{within_more}
 use Rattle.find.specs.PeakSearch.{four_of}
-use Rattle.find.proofs.Golay.{read_is, read_within}
+use Rattle.find.proofs.Golay.{read_is}
 use Rattle.find.proofs.finding.sums.Goals as goal
 use Rattle.find.proofs.finding.sums.Goals.{Start}
 
@@ -25,12 +25,6 @@ entry_within c k = within_more (c.requires.5.at k) 6400000 (lit≤ tt)
 pub loop-i-init : goal.loop-i-init
 unfolding listed
 loop-i-init c = (omega arith, refl, refl)
-
-pub four-s-requires : goal.four-s-requires
-unfolding ◌at◌
-four-s-requires c =
-    let h = entry_within (goal.at.four-s-requires c).Start in
-    (read_within (h _), read_within (h _), read_within (h _), read_within (h _))
 
 pub loop-i-preserved : goal.loop-i-preserved
 unfolding ◌at◌
@@ -43,11 +37,3 @@ loop-i-preserved c =
       (λ j. set (l.invariant.1 j) l.i ((to_z-of_z f ∙ c.four-s.ensures ∙ (λ t. e l.i t +ℤ e (l.i + a.a) t +ℤ (e (l.i + a.b) t -ℤ e (l.i + a.c) t))) j)) ∙ one_more_written (four_of (◌at◌ a.x.now) a.a a.b a.c) _ l.i (omega arith),
       simp length-set l.invariant.2,
     )
-
-pub shape_of-y : goal.shape_of-y
-shape_of-y c = c.loop-i.invariant.2
-
-pub returns : goal.returns
-returns c =
-    let e : c.loop-i.i ≡ c.args.count = omega arith in
-    rw e at c.loop-i.invariant.1

@@ -1,14 +1,14 @@
 -- `whole` meets its contract. The loop's invariant: the sums passed are in the buffer, and its other entries are as they were. Assumes nothing.
 use mathlib.Core.Path.{◌≡◌, refl, ◌∙◌}
-use Prim.Native.Nat.{ℕ, ◌+◌, ◌-◌, ◌<◌, ◌≤◌}
+use Prim.Native.Nat.{ℕ, ◌+◌, ◌<◌, ◌≤◌}
 use native.Mathlib.Omega.{arith}
 use borrow.Author.Rules.{rules}
 use lib.IntN.{◌+ℤ◌, ◌-ℤ◌}
-use lib.ListN.{length, set, length-set}
+use lib.ListN.{set, length-set}
 use mir.Syntax.{w32}
 use mir.Val.{SFits}
 use mir.Facts.{to_z-of_z}
-use Rattle.complex.specs.Buffers.{listed, written, ◌at◌}
+use Rattle.complex.specs.Buffers.{listed, ◌at◌}
 use Rattle.complex.specs.Fits.{Within}
 use Rattle.complex.proofs.Lists.{one_more_written}
 use Rattle.analyser_parts.proofs.Products.{held}
@@ -56,11 +56,3 @@ loop-i-preserved c =
       (λ j. set (l.invariant.1 j) l.i (sum j)) ∙ one_more_written (whole_of (◌at◌ a.y.now) (◌at◌ a.t.now)) _ l.i (omega arith),
       simp length-set l.invariant.2,
     )
-
-pub shape_of-y : goal.shape_of-y
-shape_of-y c = c.loop-i.invariant.2
-
-pub returns : goal.returns
-returns c =
-    let e : c.loop-i.i ≡ c.args.count = omega arith in
-    rw e at c.loop-i.invariant.1

@@ -1,17 +1,8 @@
-use mathlib.Core.Path.{◌≡◌, refl, ◌∙◌}
-use Prim.Native.Nat.{ℕ, ◌+◌, ◌-◌, ◌<◌, ◌≤◌}
-use native.Mathlib.Omega.{arith}
-use borrow.Author.Rules.{rules}
-use lib.IntN.{◌+ℤ◌, ◌-ℤ◌}
-use lib.ListN.{length, set, length-set}
-use mir.Syntax.{w32}
-use mir.Val.{SFits}
-use mir.Facts.{to_z-of_z}
+use mathlib.Core.Path.{◌≡◌}
+use Prim.Native.Nat.{◌≤◌}
+use lib.ListN.{length}
 use Rattle.complex.specs.Buffers.{listed, written, ◌at◌}
-use Rattle.complex.specs.Fits.{Within}
-use Rattle.complex.proofs.Lists.{one_more_written}
-use Rattle.analyser_parts.proofs.Products.{held}
-use Rattle.find.proofs.Golay.{kept, read_is, read_within, taken_within, whole_of}
+use Rattle.find.proofs.Golay.{whole_of}
 use Rattle.find.proofs.finding.whole.Given as goal
 
 abbrev pub invariant-loop-i : goal.invariant-loop-i
