@@ -43,14 +43,16 @@ lead-leader-requires c =
 pub returns-then-leader : goal.returns-then-leader
 unfolding numbered
 returns-then-leader c =
+    let start = (goal.at.returns-then-leader c).Start in
     let w = leads_is _ _ _ c.lead-leader.ensures c.if-leader.true in
     let some = ne_eqb (winner c.args.case (value c.args.re.now c.args.im.now)) (candidate_count c.args.case) (λ z. absurd (omega (arith, c.lead-leader.ensures.below, sym w ∙ z))) in
-    let none : refusal_number (early (goal.at.returns-then-leader c).Start ++ late (goal.at.returns-then-leader c).Start) ≡ 0 = passed_early (early (goal.at.returns-then-leader c).Start) (late (goal.at.returns-then-leader c).Start) (tests (goal.at.returns-then-leader c).Else-number-ne0) ∙ ap (λ (t : Bool). cond t 19 0) some in
-    ap gives (c.candidate.ensures ∙ ap (candidate c.args.case) (sym w)) ∙ sym (accepted _ (early (goal.at.returns-then-leader c).Start ++ late (goal.at.returns-then-leader c).Start) tt none)
+    let none : refusal_number (early start ++ late start) ≡ 0 = passed_early (early start) (late start) (tests (goal.at.returns-then-leader c).Else-number-ne0) ∙ ap (λ (t : Bool). cond t 19 0) some in
+    ap gives (c.candidate.ensures ∙ ap (candidate c.args.case) (sym w)) ∙ sym (accepted _ (early start ++ late start) tt none)
 
 pub returns-else-leader : goal.returns-else-leader
 returns-else-leader c =
+    let start = (goal.at.returns-else-leader c).Start in
     let w = leads_none _ _ _ c.lead-leader.ensures c.if-leader.false in
     let all = eq-eqb (winner c.args.case (value c.args.re.now c.args.im.now)) (candidate_count c.args.case) w in
-    let e : refusal_number (early (goal.at.returns-else-leader c).Start ++ late (goal.at.returns-else-leader c).Start) ≡ 19 = passed_early (early (goal.at.returns-else-leader c).Start) (late (goal.at.returns-else-leader c).Start) (tests (goal.at.returns-else-leader c).Else-number-ne0) ∙ ap (λ (t : Bool). cond t 19 0) all in
-    ap refused (sym e) ∙ sym (not_accepted _ (early (goal.at.returns-else-leader c).Start ++ late (goal.at.returns-else-leader c).Start) (λ z. absurd (omega (arith, sym e ∙ z))))
+    let e : refusal_number (early start ++ late start) ≡ 19 = passed_early (early start) (late start) (tests (goal.at.returns-else-leader c).Else-number-ne0) ∙ ap (λ (t : Bool). cond t 19 0) all in
+    ap refused (sym e) ∙ sym (not_accepted _ (early start ++ late start) (λ z. absurd (omega (arith, sym e ∙ z))))

@@ -22,9 +22,10 @@ low_is c = let f : SFits w32 c.lowest-low.result = search rules in to_z-of_z f
 
 pub loop-k-preserved : goal.loop-k-preserved
 loop-k-preserved c =
+    let place = (goal.at.loop-k-preserved c).After-lowest-low in
     let l = c.loop-k in
     let f : SFits w64 c.squared.result = search rules in
-    let value_is = to_z-of_z f ∙ c.squared.ensures ∙ (λ t. squared_size (low_is (goal.at.loop-k-preserved c).After-lowest-low t +j low_is (goal.at.loop-k-preserved c).After-lowest-low t)) in (
+    let value_is = to_z-of_z f ∙ c.squared.ensures ∙ (λ t. squared_size (low_is place t +j low_is place t)) in (
       omega arith,
       length-set l.all l.k _ ∙ l.invariant.1,
       bounded_more _ l.k l.all _ (omega (arith, l.invariant.1)) l.invariant.2

@@ -9,7 +9,7 @@ use Rattle.complex.proofs.Sizes.{fits_within, within_add}
 use Rattle.find.specs.PeakSearch.{lowered_of}
 use Rattle.find.proofs.Blocks.{lowered_within}
 use Rattle.find.proofs.finding.lower.Goals as goal
-use Rattle.find.proofs.finding.lower.Goals.{After-lowered-2, Start}
+use Rattle.find.proofs.finding.lower.Goals.{After-lowered-2}
 
 -- both parts, as the locals hold them
 re_is : (c : After-lowered-2) → to_z w32 (of_z w32 c.lowered.result) ≡ lowered_of c.args.re
@@ -27,8 +27,9 @@ sum_is c = to_z-of_z (asks c) ∙ (λ i. re_is c i +ℤ im_is c i)
 
 pub returns-then-y-low : goal.returns-then-y-low
 returns-then-y-low c =
-    let e = rw (sum_is (goal.at.returns-then-y-low c).After-lowered-2, to_z-of_z c.ranges.low) at c.if-y-low.true in
-    rw (sum_is (goal.at.returns-then-y-low c).After-lowered-2, e)
+    let place = (goal.at.returns-then-y-low c).After-lowered-2 in
+    let e = rw (sum_is place, to_z-of_z c.ranges.low) at c.if-y-low.true in
+    rw (sum_is place, e)
 
 pub returns-else-y-low : goal.returns-else-y-low
 returns-else-y-low c =

@@ -17,7 +17,7 @@ use Rattle.analyser_parts.proofs.Products.{held}
 use Rattle.find.specs.PeakSearch.{four_of}
 use Rattle.find.proofs.Golay.{kept, read_is, read_within, taken_within}
 use Rattle.find.proofs.finding.pairs.Goals as goal
-use Rattle.find.proofs.finding.pairs.Goals.{In-loop-i, Start}
+use Rattle.find.proofs.finding.pairs.Goals.{In-loop-i}
 
 -- the entries read, which are as they were, as the locals hold them
 module _ (c : In-loop-i) where
@@ -52,12 +52,13 @@ four-v-requires c =
 pub loop-i-preserved : goal.loop-i-preserved
 unfolding ◌at◌
 loop-i-preserved c =
+    let place = (goal.at.loop-i-preserved c).In-loop-i in
     let l = c.loop-i in
     let old = c.args.y.now in
-    let p = entry_is (goal.at.loop-i-preserved c).In-loop-i l.i (omega arith) (omega arith) in
-    let q = entry_is (goal.at.loop-i-preserved c).In-loop-i (l.i + 32) (omega arith) (omega arith) in
-    let r = entry_is (goal.at.loop-i-preserved c).In-loop-i (l.i + 16) (omega arith) (omega arith) in
-    let s = entry_is (goal.at.loop-i-preserved c).In-loop-i (l.i + 48) (omega arith) (omega arith) in
+    let p = entry_is place l.i (omega arith) (omega arith) in
+    let q = entry_is place (l.i + 32) (omega arith) (omega arith) in
+    let r = entry_is place (l.i + 16) (omega arith) (omega arith) in
+    let s = entry_is place (l.i + 48) (omega arith) (omega arith) in
     let f : SFits w32 c.four-u.result = search rules in
     let g : SFits w32 c.four-v.result = search rules in
     let u = to_z-of_z f ∙ c.four-u.ensures ∙ (λ t. p t +ℤ q t +ℤ (r t -ℤ s t)) in

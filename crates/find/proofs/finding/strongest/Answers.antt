@@ -14,7 +14,7 @@ use Rattle.complex.proofs.Sizes.{fits_within}
 use Rattle.find.specs.PeakSearch.{sizes, size_of}
 use Rattle.find.proofs.Blocks.{all_passed, none_passed}
 use Rattle.find.proofs.finding.strongest.Goals as goal
-use Rattle.find.proofs.finding.strongest.Goals.{After-size, Start}
+use Rattle.find.proofs.finding.strongest.Goals.{After-size}
 
 module _ (c : After-size) where
   value_is : to_z w64 (of_z w64 c.size.result) ≡ sizes c.args.re.now c.args.im.now 0
@@ -27,8 +27,7 @@ module _ (c : After-size) where
 
 pub floor-least-requires : goal.floor-least-requires
 floor-least-requires c =
-    let s = c in
-    (omega arith, s.requires.1, s.requires.2, s.requires.3, s.requires.4, s.requires.0, value_is (goal.at.floor-least-requires c).After-size)
+    (omega arith, c.requires.1, c.requires.2, c.requires.3, c.requires.4, c.requires.0, value_is (goal.at.floor-least-requires c).After-size)
 
 pub loop-k-init : goal.loop-k-init
 loop-k-init c = (omega arith, none_passed _ _ _ _ c.requires.0 refl (value_is (goal.at.loop-k-init c).After-size))
@@ -36,13 +35,11 @@ loop-k-init c = (omega arith, none_passed _ _ _ _ c.requires.0 refl (value_is (g
 pub block-best-requires : goal.block-best-requires
 unfolding ◌at◌
 block-best-requires c =
-    let s = c in
     let f : SFits w64 (get_or c.bounds-most.result c.loop-k.k (pos 0)) = search rules in
-    (omega arith, s.requires.1, s.requires.2, s.requires.3, s.requires.4, (λ i m. rw (to_z-of_z f) (c.bounds-most.ensures.each c.loop-k.k (omega arith) i m)), c.loop-k.invariant.1)
+    (omega arith, c.requires.1, c.requires.2, c.requires.3, c.requires.4, (λ i m. rw (to_z-of_z f) (c.bounds-most.ensures.each c.loop-k.k (omega arith) i m)), c.loop-k.invariant.1)
 
 pub returns : goal.returns
 returns c =
-    let s = c in
-    let e : c.loop-k.k ≡ length s.args.re.now / 32 = omega arith in
+    let e : c.loop-k.k ≡ length c.args.re.now / 32 = omega arith in
     let f : SFits w64 c.floor-least.result = search rules in
     all_passed _ _ _ c.floor-least.ensures.0 c.floor-least.ensures.1 _ (to_z-of_z f ∙ c.floor-least.ensures.2) (c.look.ensures _ (rw e at c.loop-k.invariant.1))

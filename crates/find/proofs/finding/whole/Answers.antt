@@ -14,7 +14,7 @@ use Rattle.complex.proofs.Lists.{one_more_written}
 use Rattle.analyser_parts.proofs.Products.{held}
 use Rattle.find.proofs.Golay.{kept, read_is, read_within, taken_within, whole_of}
 use Rattle.find.proofs.finding.whole.Goals as goal
-use Rattle.find.proofs.finding.whole.Goals.{In-loop-i, Start}
+use Rattle.find.proofs.finding.whole.Goals.{In-loop-i}
 
 -- the entries read, as the locals hold them: those of y are as they were
 module _ (c : In-loop-i) where
@@ -34,22 +34,24 @@ loop-i-init c = (omega arith, refl, refl)
 pub four-s-requires : goal.four-s-requires
 unfolding ◌at◌
 four-s-requires c =
+    let place = (goal.at.four-s-requires c).In-loop-i in
     let i = c.loop-i.i in
-    let p = read_within (y_small (goal.at.four-s-requires c).In-loop-i i (omega arith) (omega arith)) in
-    let q = read_within (y_small (goal.at.four-s-requires c).In-loop-i (i + 128) (omega arith) (omega arith)) in
-    let r = read_within (t_small (goal.at.four-s-requires c).In-loop-i (i + 192) (omega arith)) in
-    let s = read_within (t_small (goal.at.four-s-requires c).In-loop-i (i + 64) (omega arith)) in
+    let p = read_within (y_small place i (omega arith) (omega arith)) in
+    let q = read_within (y_small place (i + 128) (omega arith) (omega arith)) in
+    let r = read_within (t_small place (i + 192) (omega arith)) in
+    let s = read_within (t_small place (i + 64) (omega arith)) in
     (search rules, search rules, search rules, search rules)
 
 pub loop-i-preserved : goal.loop-i-preserved
 unfolding ◌at◌
 loop-i-preserved c =
+    let place = (goal.at.loop-i-preserved c).In-loop-i in
     let l = c.loop-i in
     let a = c.args in
-    let p = read_is (y_small (goal.at.loop-i-preserved c).In-loop-i l.i (omega arith) (omega arith)) ∙ entry_kept (goal.at.loop-i-preserved c).In-loop-i l.i (omega arith) in
-    let q = read_is (y_small (goal.at.loop-i-preserved c).In-loop-i (l.i + 128) (omega arith) (omega arith)) ∙ entry_kept (goal.at.loop-i-preserved c).In-loop-i (l.i + 128) (omega arith) in
-    let r = read_is (t_small (goal.at.loop-i-preserved c).In-loop-i (l.i + 192) (omega arith)) in
-    let s = read_is (t_small (goal.at.loop-i-preserved c).In-loop-i (l.i + 64) (omega arith)) in
+    let p = read_is (y_small place l.i (omega arith) (omega arith)) ∙ entry_kept place l.i (omega arith) in
+    let q = read_is (y_small place (l.i + 128) (omega arith) (omega arith)) ∙ entry_kept place (l.i + 128) (omega arith) in
+    let r = read_is (t_small place (l.i + 192) (omega arith)) in
+    let s = read_is (t_small place (l.i + 64) (omega arith)) in
     let f : SFits w32 c.four-s.result = search rules in
     let sum = to_z-of_z f ∙ c.four-s.ensures ∙ (λ t. p t +ℤ q t +ℤ (r t -ℤ s t)) in (
       omega arith,

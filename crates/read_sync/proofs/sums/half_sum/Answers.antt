@@ -35,20 +35,22 @@ loop-i-init c = (omega arith, refl)
 
 pub plus_signed-s-requires : goal.plus_signed-s-requires
 plus_signed-s-requires c =
+    let place = (goal.at.plus_signed-s-requires c).After-sign_at-sign in
     let l = c.loop-i in
     let terms : Within (l.i * 1600000) (to_z w32 l.s-bits) = subst (Within (l.i * 1600000)) (sym l.invariant.1) (within_Σℤ 1600000 l.i _ (λ k g. within_mul (sign_within _ _) (c.requires.3.at _))) in (
       within_more terms 24000000 (omega arith),
-      subst (Within 1) (sym (sign_is (goal.at.plus_signed-s-requires c).After-sign_at-sign)) (sign_within _ _),
-      subst (Within 1600000) (sym (entry_is (goal.at.plus_signed-s-requires c).After-sign_at-sign)) (c.requires.3.at _),
+      subst (Within 1) (sym (sign_is place)) (sign_within _ _),
+      subst (Within 1600000) (sym (entry_is place)) (c.requires.3.at _),
     )
 
 pub loop-i-preserved : goal.loop-i-preserved
 loop-i-preserved c =
+    let place = (goal.at.loop-i-preserved c).After-sign_at-sign in
     let l = c.loop-i in
     let f : SFits w32 c.plus_signed-s.result = search rules in (
       omega arith,
       to_z-of_z f ∙ c.plus_signed-s.ensures
-          ∙ (λ j. l.invariant.1 j +ℤ sign_is (goal.at.loop-i-preserved c).After-sign_at-sign j *ℤ entry_is (goal.at.loop-i-preserved c).After-sign_at-sign j)
+          ∙ (λ j. l.invariant.1 j +ℤ sign_is place j *ℤ entry_is place j)
           ∙ sym (Σℤ_more l.i _),
     )
 

@@ -22,9 +22,10 @@ module _ (c : After-signed_sum-2) where
 
 pub times_one_minus_j-requires : goal.times_one_minus_j-requires
 times_one_minus_j-requires c =
-    let s = c in
-    record { re = held (re_is c) (signed_sum_within s.requires.0 _ _); im = held (im_is c) (signed_sum_within s.requires.1 _ _) }
+    record { re = held (re_is c) (signed_sum_within c.requires.0 _ _); im = held (im_is c) (signed_sum_within c.requires.1 _ _) }
 
 pub returns : goal.returns
 unfolding correlated
-returns c = c.times_one_minus_j.ensures ∙ ap₂ (λ (x y : ℤ). (x +j y) ⊗ conj (pos 1 +j pos 1)) (re_is (goal.at.returns c).After-signed_sum-2) (im_is (goal.at.returns c).After-signed_sum-2)
+returns c =
+    let place = (goal.at.returns c).After-signed_sum-2 in
+    c.times_one_minus_j.ensures ∙ ap₂ (λ (x y : ℤ). (x +j y) ⊗ conj (pos 1 +j pos 1)) (re_is place) (im_is place)

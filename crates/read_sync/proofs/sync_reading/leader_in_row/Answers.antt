@@ -55,10 +55,11 @@ sign_leader-requires-then-r-eq0 c = ((small (goal.at.sign_leader-requires-then-r
 
 pub returns-then-r-eq0 : goal.returns-then-r-eq0
 returns-then-r-eq0 c =
-    let e = sym (unit_is (goal.at.returns-then-r-eq0 c).After-row_of-r) ∙ ap (to_z w32) c.if-r-eq0.true in
-    let first_is = c.sign_leader.ensures ∙ ap (λ (w : AllocationRow). leader_of_signs (products (goal.at.returns-then-r-eq0 c).After-row_of-r w.first).im) (row_is (goal.at.returns-then-r-eq0 c).After-row_of-r) ∙ imaginary_parts (goal.at.returns-then-r-eq0 c).After-row_of-r e _ in
-    let second_is = c.sign_leader-then-r-eq0.ensures ∙ ap (λ (w : AllocationRow). leader_of_signs (products (goal.at.returns-then-r-eq0 c).After-row_of-r w.second).im) (row_is (goal.at.returns-then-r-eq0 c).After-row_of-r) ∙ imaginary_parts (goal.at.returns-then-r-eq0 c).After-row_of-r e _ in
-    let marker-is = c.sign_leader-marker.ensures ∙ ap (λ (w : AllocationRow). leader_of_signs (products (goal.at.returns-then-r-eq0 c).After-row_of-r w.marker).re) (row_is (goal.at.returns-then-r-eq0 c).After-row_of-r) in
+    let place = (goal.at.returns-then-r-eq0 c).After-row_of-r in
+    let e = sym (unit_is place) ∙ ap (to_z w32) c.if-r-eq0.true in
+    let first_is = c.sign_leader.ensures ∙ ap (λ (w : AllocationRow). leader_of_signs (products place w.first).im) (row_is place) ∙ imaginary_parts place e _ in
+    let second_is = c.sign_leader-then-r-eq0.ensures ∙ ap (λ (w : AllocationRow). leader_of_signs (products place w.second).im) (row_is place) ∙ imaginary_parts place e _ in
+    let marker-is = c.sign_leader-marker.ensures ∙ ap (λ (w : AllocationRow). leader_of_signs (products place w.marker).re) (row_is place) in
     c.row_leader.ensures ∙ (λ i. leader_of_row c.args.case (first_is i) (second_is i) (marker-is i))
 
 pub sign_leader-requires-2 : goal.sign_leader-requires-2
@@ -69,8 +70,9 @@ sign_leader-requires-3 c = ((small (goal.at.sign_leader-requires-3 c).After-row_
 
 pub returns : goal.returns
 returns c =
-    let n : (allocation_row c.args.n c.args.set).unit.re ≢ pos 0 = λ e. c.if-r-eq0.false (ap (of_z w32) (ap (λ (w : AllocationRow). w.unit.re) (row_is (goal.at.returns c).After-row_of-r) ∙ e)) in
-    let first_is = c.sign_leader-2.ensures ∙ ap (λ (w : AllocationRow). leader_of_signs (products (goal.at.returns c).After-row_of-r w.first).re) (row_is (goal.at.returns c).After-row_of-r) ∙ real_parts (goal.at.returns c).After-row_of-r n _ in
-    let second_is = c.sign_leader-3.ensures ∙ ap (λ (w : AllocationRow). leader_of_signs (products (goal.at.returns c).After-row_of-r w.second).re) (row_is (goal.at.returns c).After-row_of-r) ∙ real_parts (goal.at.returns c).After-row_of-r n _ in
-    let marker-is = c.sign_leader-marker.ensures ∙ ap (λ (w : AllocationRow). leader_of_signs (products (goal.at.returns c).After-row_of-r w.marker).re) (row_is (goal.at.returns c).After-row_of-r) in
+    let place = (goal.at.returns c).After-row_of-r in
+    let n : (allocation_row c.args.n c.args.set).unit.re ≢ pos 0 = λ e. c.if-r-eq0.false (ap (of_z w32) (ap (λ (w : AllocationRow). w.unit.re) (row_is place) ∙ e)) in
+    let first_is = c.sign_leader-2.ensures ∙ ap (λ (w : AllocationRow). leader_of_signs (products place w.first).re) (row_is place) ∙ real_parts place n _ in
+    let second_is = c.sign_leader-3.ensures ∙ ap (λ (w : AllocationRow). leader_of_signs (products place w.second).re) (row_is place) ∙ real_parts place n _ in
+    let marker-is = c.sign_leader-marker.ensures ∙ ap (λ (w : AllocationRow). leader_of_signs (products place w.marker).re) (row_is place) in
     c.row_leader-2.ensures ∙ (λ i. leader_of_row c.args.case (first_is i) (second_is i) (marker-is i))

@@ -60,20 +60,22 @@ plus-s-requires c = fits_within (within_add (first_within c) (last_within c)) tt
 
 pub less-d-requires : goal.less-d-requires
 less-d-requires c =
-    let f = first_within (goal.at.less-d-requires c).After-half_sum-last in
-    let l = last_within (goal.at.less-d-requires c).After-half_sum-last in
+    let place = (goal.at.less-d-requires c).After-half_sum-last in
+    let f = first_within place in
+    let l = last_within place in
     let one_way = fits_within (within_sub f l) {w = w32} tt in
     let other_way = fits_within (within_sub l f) {w = w32} tt in
     search rules
 
 pub loop-m-preserved : goal.loop-m-preserved
 loop-m-preserved c =
+    let place = (goal.at.loop-m-preserved c).After-half_sum-last in
     let l = c.loop-m in
     let x = c.args.x.now in
     let f : SFits w32 c.plus-s.result = search rules in
     let g : SFits w32 c.less-d.result = search rules in
-    let sum = to_z-of_z f ∙ c.plus-s.ensures ∙ (λ i. first_is (goal.at.loop-m-preserved c).After-half_sum-last i +ℤ last_is (goal.at.loop-m-preserved c).After-half_sum-last i) ∙ sym (by_a x (l.m * 16)) in
-    let difference = to_z-of_z g ∙ c.less-d.ensures ∙ (λ i. first_is (goal.at.loop-m-preserved c).After-half_sum-last i -ℤ last_is (goal.at.loop-m-preserved c).After-half_sum-last i) ∙ sym (by_b x (l.m * 16)) in (
+    let sum = to_z-of_z f ∙ c.plus-s.ensures ∙ (λ i. first_is place i +ℤ last_is place i) ∙ sym (by_a x (l.m * 16)) in
+    let difference = to_z-of_z g ∙ c.less-d.ensures ∙ (λ i. first_is place i -ℤ last_is place i) ∙ sym (by_b x (l.m * 16)) in (
       omega arith,
       (λ j. set (l.invariant.1 j) l.m (sum j)) ∙ one_more_written (λ k. signed_sum x (k * 16) (packed a)) _ l.m (omega arith),
       (λ j. set (l.invariant.2 j) l.m (difference j)) ∙ one_more_written (λ k. signed_sum x (k * 16) (packed b)) _ l.m (omega arith),

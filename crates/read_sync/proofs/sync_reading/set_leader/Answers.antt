@@ -54,9 +54,10 @@ or_later-requires c = (lit< tt, (found (goal.at.or_later-requires c).After-code_
 
 pub returns : goal.returns
 returns c =
+    let place = (goal.at.returns c).After-code_set-set in
     let z = c in
     let one-is = c.leader_in_row-one.ensures in
-    let two_is = c.or_later-two.ensures ∙ (λ i. leader_or_later ((found (goal.at.returns c).After-code_set-set 0 (lit< tt) one-is).0 i) 8 ((found (goal.at.returns c).After-code_set-set 1 (lit< tt) c.leader_in_row.ensures).0 i)) in
-    let three-is = c.or_later-three.ensures ∙ (λ i. leader_or_later (two_is i) 16 ((found (goal.at.returns c).After-code_set-set 2 (lit< tt) c.leader_in_row-2.ensures).0 i)) in
-    let four_is = c.or_later.ensures ∙ (λ i. leader_or_later (three-is i) 24 ((found (goal.at.returns c).After-code_set-set 3 (lit< tt) c.leader_in_row-3.ensures).0 i)) in
-    subst (Leads _ 32) (sym four_is) (set_leads (products (goal.at.returns c).After-code_set-set) z.args.case z.args.n z.requires.0 z.requires.1)
+    let two_is = c.or_later-two.ensures ∙ (λ i. leader_or_later ((found place 0 (lit< tt) one-is).0 i) 8 ((found place 1 (lit< tt) c.leader_in_row.ensures).0 i)) in
+    let three-is = c.or_later-three.ensures ∙ (λ i. leader_or_later (two_is i) 16 ((found place 2 (lit< tt) c.leader_in_row-2.ensures).0 i)) in
+    let four_is = c.or_later.ensures ∙ (λ i. leader_or_later (three-is i) 24 ((found place 3 (lit< tt) c.leader_in_row-3.ensures).0 i)) in
+    subst (Leads _ 32) (sym four_is) (set_leads (products place) z.args.case z.args.n z.requires.0 z.requires.1)

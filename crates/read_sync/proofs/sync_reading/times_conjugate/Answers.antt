@@ -50,14 +50,16 @@ sum_of_products-requires c =
 
 pub sum_of_products-requires-2 : goal.sum_of_products-requires-2
 sum_of_products-requires-2 c =
+    let place = (goal.at.sum_of_products-requires-2 c).After-wide in
     let p = c.requires in
-    products_fit (held (b_is (goal.at.sum_of_products-requires-2 c).After-wide) p.0.im) (held (c_is (goal.at.sum_of_products-requires-2 c).After-wide) p.1.re) (held (a_is (goal.at.sum_of_products-requires-2 c).After-wide) p.0.re) (held (-d_is c) (within_neg p.1.im)) tt tt tt
+    products_fit (held (b_is place) p.0.im) (held (c_is place) p.1.re) (held (a_is place) p.0.re) (held (-d_is c) (within_neg p.1.im)) tt tt tt
 
 pub returns : goal.returns
 returns c =
+    let place = (goal.at.returns c).After-wide in
     let f : SFits w64 c.sum_of_products.result = search rules in
     let g : SFits w64 c.sum_of_products-2.result = search rules in
     by_components
-    (to_z-of_z f ∙ c.sum_of_products.ensures ∙ (λ i. a_is (goal.at.returns c).After-wide i *ℤ c_is (goal.at.returns c).After-wide i +ℤ b_is (goal.at.returns c).After-wide i *ℤ d_is (goal.at.returns c).After-wide i))
-    (to_z-of_z g ∙ c.sum_of_products-2.ensures ∙ (λ i. b_is (goal.at.returns c).After-wide i *ℤ c_is (goal.at.returns c).After-wide i +ℤ a_is (goal.at.returns c).After-wide i *ℤ -d_is (goal.at.returns c).After-minus i))
+    (to_z-of_z f ∙ c.sum_of_products.ensures ∙ (λ i. a_is place i *ℤ c_is place i +ℤ b_is place i *ℤ d_is place i))
+    (to_z-of_z g ∙ c.sum_of_products-2.ensures ∙ (λ i. b_is place i *ℤ c_is place i +ℤ a_is place i *ℤ -d_is (goal.at.returns c).After-minus i))
     ∙ sym (times_conj c.args.s c.args.p)
