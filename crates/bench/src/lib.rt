@@ -20,7 +20,7 @@ mod taken;
 // `settings` are what the calls change. While `running` is not 0 a slot is under way: `sending` is the copy of the settings made at its
 // start, and `position` is how many of its chips are out.
 #[repr(C)]
-#[derive(Drop)]
+#[derive(Clone, Copy)]
 pub struct Bench {
     pub settings: Settings,
     pub running: u8,
@@ -28,13 +28,13 @@ pub struct Bench {
     pub position: usize,
 }
 
-#[derive(Drop)]
+#[derive(Clone, Copy)]
 pub enum CallAnswer {
     Accepted,
     Refused(u32),
 }
 
-#[derive(Drop)]
+#[derive(Clone, Copy)]
 pub struct Answered {
     pub answer: CallAnswer,
     pub bench: Bench,
@@ -50,13 +50,13 @@ pub struct Channel {
 }
 
 // Of a refused plan the number, and the place of the record that failed, from 0.
-#[derive(Drop)]
+#[derive(Clone, Copy)]
 pub enum PlanAnswer {
     Loaded,
     Refused(u32, usize),
 }
 
-#[derive(Drop)]
+#[derive(Clone, Copy)]
 pub struct Planned {
     pub answer: PlanAnswer,
     pub bench: Bench,
@@ -64,7 +64,7 @@ pub struct Planned {
 
 // The records of a plan by value. At most 16 codes can be open together, so in a longer plan one of the first 17 records fails.
 #[repr(C)]
-#[derive(Drop)]
+#[derive(Clone, Copy)]
 pub struct PlanRecords {
     pub records: [Channel; 17],
 }
@@ -76,7 +76,7 @@ pub enum DrawAnswer {
     Refused(u32),
 }
 
-#[derive(Drop)]
+#[derive(Clone, Copy)]
 pub struct Drawn {
     pub answer: DrawAnswer,
     pub bench: Bench,

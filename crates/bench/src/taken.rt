@@ -9,7 +9,7 @@ use tables::pairs::clear_open;
 
 // `gains` are those of the codes that the records opened, up to the first that failed; `number` and `place` are that record's, and 0 while none
 // has. The records are tested against these gains alone, and the bench is built once, from the last of them.
-#[derive(Drop)]
+#[derive(Clone, Copy)]
 pub struct Taken {
     pub gains: [u16; 31],
     pub number: u32,

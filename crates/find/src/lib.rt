@@ -8,13 +8,13 @@ ghost use Rattle.find.specs.Finding.{find_call, answer_of_find, ScratchLeft};
 mod finding;
 
 // Where 256 chips are most like the primary code, and the squared size of their correlation with it.
-#[derive(Drop)]
+#[derive(Clone, Copy)]
 pub struct Peak {
     pub start: usize,
     pub size: i64,
 }
 
-#[derive(Drop)]
+#[derive(Clone, Copy)]
 pub enum FindAnswer {
     Found(Peak),
     Refused(u32),

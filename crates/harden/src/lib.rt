@@ -9,7 +9,7 @@ ghost use Rattle.harden.specs.Hardening.{harden_call, answer_of_harden};
 
 mod hardening;
 
-#[derive(Drop)]
+#[derive(Clone, Copy)]
 pub enum HardenAnswer {
     Hardened,
     Refused(u32),

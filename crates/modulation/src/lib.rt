@@ -5,7 +5,7 @@ pub mod burst;
 pub mod data;
 
 // Sixteen complex values.
-#[derive(Drop)]
+#[derive(Clone, Copy)]
 pub struct Block {
     pub re: [i32; 16],
     pub im: [i32; 16],

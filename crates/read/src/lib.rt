@@ -14,7 +14,7 @@ mod reading;
 mod signed;
 mod sixteen;
 
-#[derive(Drop)]
+#[derive(Clone, Copy)]
 pub enum ReadAnswer {
     Read,
     Refused(u32),

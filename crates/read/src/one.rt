@@ -50,7 +50,7 @@ fn product(x: Complex, w: Complex) -> Complex
     both_signed(difference(w), sum(w), arranged(x, w))
 }
 
-#[derive(Drop)]
+#[derive(Clone, Copy)]
 pub struct Products {
     pub re: [i32; 16],
     pub im: [i32; 16],

@@ -68,7 +68,7 @@ fn multiplier(cell: CellParameter, q: u32, k: u32, i: u32) -> Complex
 }
 
 // The sixteen multipliers of a code, component by component.
-#[derive(Drop)]
+#[derive(Clone, Copy)]
 pub struct CodeMultipliers {
     pub re: [i32; 16],
     pub im: [i32; 16],

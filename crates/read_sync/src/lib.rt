@@ -11,14 +11,14 @@ mod sums;
 mod sync_reading;
 
 // What a sync burst was sent for: the code group, the frame, 1 or 2, and the half, 0 for slot k and 1 for slot k+8.
-#[derive(Drop)]
+#[derive(Clone, Copy)]
 pub struct Candidate {
     pub group: CodeGroup,
     pub frame: u32,
     pub half: u32,
 }
 
-#[derive(Drop)]
+#[derive(Clone, Copy)]
 pub enum SyncAnswer {
     Burst(Candidate),
     Refused(u32),

@@ -43,7 +43,7 @@ pub fn refusal(case: u32, re: &[i32], im: &[i32]) -> u32
 }
 
 // The sums of each 16 chips with the signs of the sequences a and b.
-#[derive(Drop)]
+#[derive(Clone, Copy)]
 pub struct PartSums {
     pub a: [i32; 16],
     pub b: [i32; 16],
@@ -80,7 +80,7 @@ fn correlation(re: &[i32; 16], im: &[i32; 16], signs: u32) -> Complex
 }
 
 // A complex value at 64 bits.
-#[derive(Drop)]
+#[derive(Clone, Copy)]
 pub struct WideComplex {
     pub re: i64,
     pub im: i64,
@@ -112,7 +112,7 @@ fn product(re: &[i32; 16], im: &[i32; 16], p: Complex, i: u32) -> WideComplex
 }
 
 // `product` for each number below sixteen, component by component.
-#[derive(Drop)]
+#[derive(Clone, Copy)]
 pub struct SecondaryProducts {
     pub re: [i64; 16],
     pub im: [i64; 16],
@@ -155,7 +155,7 @@ pub fn candidate(case: u32, n: u32) -> Candidate
 }
 
 // The first candidate with the largest score so far, and whether no other has it too.
-#[derive(Drop)]
+#[derive(Clone, Copy)]
 pub struct Leader {
     pub at: u32,
     pub score: i64,

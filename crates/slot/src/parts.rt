@@ -3,7 +3,7 @@ ghost use Rattle.std.specs.Prelude.{◌≡◌};
 ghost use Rattle.slot.specs.Slot.{slot_parts, lengths};
 
 // How many chips each part has.
-#[derive(Drop)]
+#[derive(Clone, Copy)]
 pub struct Parts {
     pub field1: usize,
     pub midamble: usize,

@@ -21,14 +21,14 @@ use read::ReadAnswer;
 use read_sync::SyncAnswer;
 
 #[repr(C)]
-#[derive(Drop)]
+#[derive(Clone, Copy)]
 pub struct CallResult {
     pub refusal: u32,
     pub bench: Bench,
 }
 
 #[repr(C)]
-#[derive(Drop)]
+#[derive(Clone, Copy)]
 pub struct PlanResult {
     pub refusal: u32,
     pub place: usize,
@@ -36,7 +36,7 @@ pub struct PlanResult {
 }
 
 #[repr(C)]
-#[derive(Drop)]
+#[derive(Clone, Copy)]
 pub struct DrawResult {
     pub refusal: u32,
     pub count: usize,
@@ -44,7 +44,7 @@ pub struct DrawResult {
 }
 
 #[repr(C)]
-#[derive(Drop)]
+#[derive(Clone, Copy)]
 pub struct SyncResult {
     pub refusal: u32,
     pub group: u32,
@@ -53,7 +53,7 @@ pub struct SyncResult {
 }
 
 #[repr(C)]
-#[derive(Drop)]
+#[derive(Clone, Copy)]
 pub struct FindResult {
     pub refusal: u32,
     pub start: usize,

@@ -15,7 +15,7 @@ use codes::{
 use complex::Complex;
 
 #[repr(C)]
-#[derive(Drop)]
+#[derive(Clone, Copy)]
 pub struct ElementResult {
     pub refusal: u32,
     pub element: i32,
@@ -41,7 +41,7 @@ pub extern "C" fn tdd_element(q: u32, k: u32, chip: u32) -> ElementResult
 }
 
 #[repr(C)]
-#[derive(Drop)]
+#[derive(Clone, Copy)]
 pub struct RelatedResult {
     pub refusal: u32,
     pub related: u32,
@@ -73,7 +73,7 @@ pub extern "C" fn tdd_related(q1: u32, k1: u32, q2: u32, k2: u32) -> RelatedResu
 }
 
 #[repr(C)]
-#[derive(Drop)]
+#[derive(Clone, Copy)]
 pub struct GroupResult {
     pub refusal: u32,
     pub group: u32,
@@ -99,7 +99,7 @@ pub extern "C" fn tdd_code_group(cell: u32) -> GroupResult
 }
 
 #[repr(C)]
-#[derive(Drop)]
+#[derive(Clone, Copy)]
 pub struct ChipResult {
     pub refusal: u32,
     pub chip: Complex,
@@ -150,7 +150,7 @@ pub extern "C" fn tdd_secondary_chip(number: u32, chip: u32) -> ChipResult
 }
 
 #[repr(C)]
-#[derive(Drop)]
+#[derive(Clone, Copy)]
 pub struct AllocationResult {
     pub refusal: u32,
     pub codes: Allocated,
@@ -178,7 +178,7 @@ pub extern "C" fn tdd_allocation(case: u32, group: u32, frame: u32, half: u32) -
 }
 
 #[repr(C)]
-#[derive(Drop)]
+#[derive(Clone, Copy)]
 pub struct StartResult {
     pub refusal: u32,
     pub start: u32,
