@@ -2,9 +2,12 @@
 use crate::answers::{Answers, FAILED};
 use crate::{answers, words};
 use std::fs::{File, OpenOptions};
-use std::io::{Cursor, Error, ErrorKind, Read, Stderr, Stdin, Write};
+use std::io::{Cursor, Error, Read, Stderr, Stdin, Write};
 use std::rt::HostRuntime;
 use std::{fs, io};
+
+// Linux's EILSEQ.
+const NOT_TEXT: i32 = 84;
 
 // What a script is read from. A file is closed where it is dropped.
 #[derive(Drop)]
@@ -116,6 +119,6 @@ pub fn opened(rt: &HostRuntime, name: &[u8]) -> Option<Source> {
 fn open(rt: &HostRuntime, name: &[u8]) -> io::Result<File> {
     match str::from_utf8(name) {
         Ok(text) => File::open(rt, text),
-        Err(_) => Err(Error::from(ErrorKind::InvalidFilename)),
+        Err(_) => Err(Error::from_raw_os_error(NOT_TEXT)),
     }
 }
