@@ -3,6 +3,7 @@
 
 use std::env::FillError;
 use std::io::Error;
+use std::process::ExitCode;
 use std::rt::{Env, HostRuntime};
 use text::files::{Ending, Source};
 use text::{files, words};
@@ -11,7 +12,7 @@ use text::{files, words};
 const NAME_TOO_LONG: i32 = 36;
 
 // The forms of the calls, as `help` prints them; the numbers of their rows are in script/src/rows.rt.
-fn main(rt: HostRuntime) {
+fn main(rt: HostRuntime) -> ExitCode {
     program(
         &rt,
         b"set-cell P T                      # cell 0 to 127, type 1 to 3; closes all codes
@@ -52,21 +53,21 @@ refusals                          # what the number of a refusal means
 help                              # this list
 # In brackets: may be left out; | is or. Before ...: as often as you like.
 ",
-    );
+    )
 }
 
-// The scripts that the arguments name, or else standard input.
-fn program(rt: &HostRuntime, forms: &[u8]) {
+// The scripts that the arguments name, or else standard input; answers the status to end with.
+fn program(rt: &HostRuntime, forms: &[u8]) -> ExitCode {
     let count = arg_count(rt);
     if count < 2 {
-        answer_input(rt, forms);
-        return;
+        return answer_input(rt, forms).unwrap_or(ExitCode::SUCCESS);
     }
     for i in 1..count {
-        if !answer_argument(rt, i, count > 2, forms) {
-            break;
+        if let Some(status) = answer_argument(rt, i, count > 2, forms) {
+            return status;
         }
     }
+    ExitCode::SUCCESS
 }
 
 // How many arguments there are, the program's name among them.
@@ -79,8 +80,8 @@ fn arg_count(rt: &HostRuntime) -> usize {
     usize::MAX
 }
 
-// Answers the script on standard input, and whether the next one can be run.
-fn answer_input(rt: &HostRuntime, forms: &[u8]) -> bool {
+// Answers the script on standard input, and the status to end with where no next one can be run.
+fn answer_input(rt: &HostRuntime, forms: &[u8]) -> Option<ExitCode> {
     let source = Source::Standard(rt.stdin());
     files::ended(
         rt,
@@ -89,36 +90,29 @@ fn answer_input(rt: &HostRuntime, forms: &[u8]) -> bool {
     )
 }
 
-// Answers the script that argument i names, and whether the next one can be run.
-fn answer_argument(rt: &HostRuntime, i: usize, several: bool, forms: &[u8]) -> bool {
+// The same for the script that argument i names.
+fn answer_argument(rt: &HostRuntime, i: usize, several: bool, forms: &[u8]) -> Option<ExitCode> {
     let mut path = [0u8; 4096];
     match rt.arg(i, &mut path) {
         Ok(n) => answer_file(rt, &path[..n], several, forms),
         Err(_) => {
             let why = Error::from_raw_os_error(NAME_TOO_LONG);
             files::fail(rt, b"tdd: cannot open ", b"a script", why);
-            true
+            None
         }
     }
 }
 
-// Answers the script with this name, `-` for standard input, and whether the next one can be run. Where there are several it says first which.
-fn answer_file(rt: &HostRuntime, name: &[u8], several: bool, forms: &[u8]) -> bool {
+// The same for the script with this name, `-` for standard input. Where there are several it says first which.
+fn answer_file(rt: &HostRuntime, name: &[u8], several: bool, forms: &[u8]) -> Option<ExitCode> {
     if several {
-        match files::heading(rt, name) {
-            Ok(()) => {}
-            Err(why) => return files::ended(rt, Ending::NotWritten(why), name),
+        if let Err(why) = files::heading(rt, name) {
+            return files::ended(rt, Ending::NotWritten(why), name);
         }
     }
     if words::same(name, b"-") {
         return answer_input(rt, forms);
     }
-    match files::opened(rt, name) {
-        Some(source) => files::ended(
-            rt,
-            scripts::answer_all(source, rt.stdout(), forms),
-            name,
-        ),
-        None => true,
-    }
+    let source = files::opened(rt, name)?;
+    files::ended(rt, scripts::answer_all(source, rt.stdout(), forms), name)
 }

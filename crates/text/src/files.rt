@@ -2,12 +2,16 @@
 use crate::answers::{Answers, FAILED};
 use crate::{answers, words};
 use std::fs::{File, OpenOptions};
-use std::io::{Cursor, Error, Read, Stderr, Stdin, Write};
+use std::io::{Cursor, Error, ErrorKind, Read, Stderr, Stdin, Write};
+use std::process::ExitCode;
 use std::rt::HostRuntime;
 use std::{fs, io};
 
 // Linux's EILSEQ.
 const NOT_TEXT: i32 = 84;
+
+// The status with which a program ends whose answers nobody reads any more, as if the signal SIGPIPE had ended it. Nothing is told then.
+const UNREAD: u8 = 141;
 
 // What a script is read from. A file is closed where it is dropped.
 #[derive(Drop)]
@@ -73,7 +77,7 @@ fn without_number(text: &[u8]) -> &[u8] {
 // The command ./tdd gives the program a descriptor 3 for this. It is left alone where it is closed, or open for reading alone:
 // then the link to it has no write bits.
 fn tell_command(rt: &HostRuntime) -> io::Result<()> {
-    let name = "/dev/fd/3";
+    let name = "/proc/self/fd/3";
     if fs::symlink_metadata(rt, name)?.permissions().readonly() {
         return Ok(());
     }
@@ -81,17 +85,20 @@ fn tell_command(rt: &HostRuntime) -> io::Result<()> {
     file.write_all(b"failed\n")
 }
 
-// Tells how the run of the script with this name ended, and answers whether the next one can be run.
-pub fn ended(rt: &HostRuntime, ending: Ending, name: &[u8]) -> bool {
+// Tells how the run of the script with this name ended, and answers the status to end with where no next one can be run.
+pub fn ended(rt: &HostRuntime, ending: Ending, name: &[u8]) -> Option<ExitCode> {
     match ending {
-        Ending::Whole => true,
+        Ending::Whole => None,
         Ending::NotRead(why) => {
             fail(rt, b"tdd: cannot read ", name, why);
-            true
+            None
         }
         Ending::NotWritten(why) => {
+            if why.kind() == ErrorKind::BrokenPipe {
+                return Some(ExitCode::from(UNREAD));
+            }
             fail(rt, b"tdd: cannot write ", b"the answers", why);
-            false
+            Some(ExitCode::SUCCESS)
         }
     }
 }
