@@ -20,7 +20,7 @@ mod taken;
 // `settings` are what the calls change. While `running` is not 0 a slot is under way: `sending` is the copy of the settings made at its
 // start, and `position` is how many of its chips are out.
 #[repr(C)]
-#[derive(Drop)]
+#[derive(Clone, Copy)]
 pub struct Bench {
     pub settings: Settings,
     pub running: u8,
