@@ -50,8 +50,9 @@ narrow() {
 }
 
 # A copy of the command with nothing built, and a path on which there is little.
-mkdir -p "$room/copy/crates" "$room/copy/host" "$room/little" "$room/rt"
+mkdir -p "$room/copy/crates/tdd/src" "$room/copy/host" "$room/little" "$room/rt"
 cp tdd crates.txt "$room/copy"
+cp crates/tdd/src/main.rt "$room/copy/crates/tdd/src"
 sed 's/^version = .*/version = "7.8.9"/' host/Cargo.toml >"$room/copy/host/Cargo.toml"
 for tool in dirname readlink sed; do ln -s "$(command -v $tool)" "$room/little"; done
 bare() { runs env PATH="$room/little" "$room/copy/tdd" "$@"; }
@@ -97,7 +98,7 @@ told "a run with no program and no rt" 2 \
     "tdd: the program is not built, and rt is not on the path: install the Rattle toolchain that README.md names"
 ./tdd </dev/null # proves and builds the program
 # In the copy, an rt that hands out the program with its old time, or fails where crates/wrong is there.
-printf '%s\n' '#!/bin/sh' 'echo "rt $*"' '[ ! -e crates/wrong ] && mkdir -p target/bin && cp -p "$proved" target/bin/tdd' >"$room/rt/rt"
+printf '%s\n' '#!/bin/sh' 'echo "rt $*"' '[ ! -e ../wrong ] && mkdir -p out && cp -p "$proved" out/tdd' >"$room/rt/rt"
 chmod +x "$room/rt/rt"
 export proved="$PWD/target/bin/tdd"
 proving="tdd: proving and building the program, which takes some minutes the first time"
@@ -109,11 +110,13 @@ copied() {
 }
 copied "the first run" 0 "$proving"
 copied "the second run" 0 ""
-touch -d '1 hour' "$room/copy/crates/new"
+touch -d '1 hour' "$room/copy/crates/tdd/out/kept"
+copied "a run after rt kept something" 0 ""
+touch -d '1 hour' "$room/copy/crates/tdd/src/main.rt"
 copied "a run after a source was changed" 0 "$proving"
 touch "$room/copy/crates/wrong"
 copied "a run of a program that is not proved" 2 "$proving
-rt check tdd
+rt run
 tdd: the program is not proved; target/tdd.log says why"
 [ ! -e "$room/copy/target/bin/tdd" ] || fail "a program that is not proved stays"
 rm -r "$room/copy/crates"

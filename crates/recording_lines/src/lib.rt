@@ -15,7 +15,7 @@ mod sync;
 
 // What lines find and leave beside the bench: how many chips the recording has, how many readings the last accepted read gave, and whether long lines and refusals are told
 // in brief.
-#[derive(Drop)]
+#[derive(Clone, Copy)]
 pub struct Recording {
     pub chips: usize,
     pub readings: usize,
@@ -72,7 +72,7 @@ fn answered(row: usize, x: [u32; 5], line: &[u8], r: Recording, m: &mut Memory) 
 }
 
 // FROM and COUNT of a line.
-#[derive(Drop)]
+#[derive(Clone, Copy)]
 struct Part {
     from: u32,
     count: u32,

@@ -1,7 +1,7 @@
 // What a line is answered: numbers alone. The values of a long line stand in the memory.
 use crate::faults::Fault;
 
-#[derive(Drop)]
+#[derive(Clone, Copy)]
 pub enum LineAnswer {
     // The line has no word.
     Nothing,

@@ -1,7 +1,7 @@
 // What can be wrong with a line.
 use text::words::Word;
 
-#[derive(Drop)]
+#[derive(Clone, Copy)]
 pub enum Fault {
     None,
     Unknown(Word),

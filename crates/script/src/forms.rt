@@ -2,7 +2,7 @@
 use text::{lines, words};
 
 // The row forms[from..to], number `row`, from 1 on. Row 0 is no row.
-#[derive(Drop)]
+#[derive(Clone, Copy)]
 pub struct Form {
     pub row: usize,
     pub from: usize,

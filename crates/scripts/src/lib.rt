@@ -7,18 +7,25 @@ use calls::Now;
 use recording_lines::Recording;
 use script::memory;
 use script::memory::Memory;
+use std::io::Stdout;
 use text::answers::Answers;
-use text::files::Ending;
+use text::files::{Ending, Source};
 use text::lines::{Buffer, Refilled, Step};
-use text::{answers, files, lines};
+use text::{files, lines};
 
 mod calls;
 
 // Answers each line of the input. A proved loop has to end, and nothing says that the input does, so the loop counts its turns
 // down, from a number that no run uses up.
-fn run(fd: i32, forms: &[u8], buf: &mut Buffer, out: &mut Answers, m: &mut Memory) -> Ending {
+fn run(
+    source: Source,
+    forms: &[u8],
+    buf: &mut Buffer,
+    out: &mut Answers,
+    m: &mut Memory,
+) -> Ending {
     let mut now = fresh();
-    let mut input = lines::first(fd);
+    let mut input = lines::first(source);
     let mut at: u64 = 1;
     let mut turns = u64::MAX;
     while turns > 0 {
@@ -57,9 +64,9 @@ fn fresh() -> Now {
 }
 
 // Answers a script with buffers and a memory of its own; a run takes some 750 KB of the stack.
-pub fn answer_all(fd: i32, forms: &[u8]) -> Ending {
+pub fn answer_all(source: Source, to: Stdout, forms: &[u8]) -> Ending {
     let mut buf = [0u8; lines::ROOM];
-    let mut out = [0u8; answers::ROOM];
+    let mut out = Answers::new(to);
     let mut m = [0i32; memory::SIZE];
-    run(fd, forms, &mut buf, &mut out, &mut m)
+    run(source, forms, &mut buf, &mut out, &mut m)
 }

@@ -10,7 +10,7 @@ pub mod refusals;
 pub mod sentence;
 
 // Where an answer is due: the line's number in the script, its form, and the recording that it found.
-#[derive(Drop)]
+#[derive(Clone, Copy)]
 pub struct Context {
     pub at: u64,
     pub form: Form,

@@ -74,7 +74,7 @@ pub const UNDER_WAY: usize = 33;
 pub const NO_SLOT: usize = 34;
 
 // A row, its numbers, and the word of the line that it quotes.
-#[derive(Drop)]
+#[derive(Clone, Copy)]
 pub struct Sentence {
     pub row: usize,
     pub x: [u64; 5],

@@ -19,7 +19,7 @@ const RANDOM: u32 = 3;
 const NO_BITS: u32 = 4;
 
 // `count` bits, what follows them, and the generator's state; or what is wrong.
-#[derive(Drop)]
+#[derive(Clone, Copy)]
 pub struct Bits {
     pub fault: Fault,
     pub count: usize,

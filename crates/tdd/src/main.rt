@@ -1,12 +1,20 @@
 // The program tdd: runs scripts of calls of bench, analyser and code rules. docs/TDD.md is its manual.
 #![tactic(auto)]
 
-use text::files::Ending;
+use std::env::FillError;
+use std::io::Error;
+use std::process::ExitCode;
+use std::rt::{Env, HostRuntime};
+use text::files::{Ending, Source};
 use text::{files, words};
 
+// Linux's ENAMETOOLONG.
+const NAME_TOO_LONG: i32 = 36;
+
 // The forms of the calls, as `help` prints them; the numbers of their rows are in script/src/rows.rt.
-fn main() {
+fn main(rt: HostRuntime) -> ExitCode {
     program(
+        &rt,
         b"set-cell P T                      # cell 0 to 127, type 1 to 3; closes all codes
 open Q K G                        # code (Q, K), gain 1 to 4095, with bits all 0
 load-plan [Q,K,G]...              # these codes in place of all open ones
@@ -45,52 +53,66 @@ refusals                          # what the number of a refusal means
 help                              # this list
 # In brackets: may be left out; | is or. Before ...: as often as you like.
 ",
-    );
+    )
 }
 
-// The scripts that the arguments name, or else standard input.
-fn program(forms: &[u8]) {
-    let count = os::arg_count();
+// The scripts that the arguments name, or else standard input; answers the status to end with.
+fn program(rt: &HostRuntime, forms: &[u8]) -> ExitCode {
+    let count = arg_count(rt);
     if count < 2 {
-        answer_input(forms);
-        return;
+        return answer_input(rt, forms).unwrap_or(ExitCode::SUCCESS);
     }
     for i in 1..count {
-        if !answer_argument(i, count > 2, forms) {
-            break;
+        if let Some(status) = answer_argument(rt, i, count > 2, forms) {
+            return status;
+        }
+    }
+    ExitCode::SUCCESS
+}
+
+// How many arguments there are, the program's name among them.
+fn arg_count(rt: &HostRuntime) -> usize {
+    for i in 0..usize::MAX {
+        if let Err(FillError::NotPresent) = rt.arg(i, &mut []) {
+            return i;
+        }
+    }
+    usize::MAX
+}
+
+// Answers the script on standard input, and the status to end with where no next one can be run.
+fn answer_input(rt: &HostRuntime, forms: &[u8]) -> Option<ExitCode> {
+    let source = Source::Standard(rt.stdin());
+    files::ended(
+        rt,
+        scripts::answer_all(source, rt.stdout(), forms),
+        b"standard input",
+    )
+}
+
+// The same for the script that argument i names.
+fn answer_argument(rt: &HostRuntime, i: usize, several: bool, forms: &[u8]) -> Option<ExitCode> {
+    let mut path = [0u8; 4096];
+    match rt.arg(i, &mut path) {
+        Ok(n) => answer_file(rt, &path[..n], several, forms),
+        Err(_) => {
+            let why = Error::from_raw_os_error(NAME_TOO_LONG);
+            files::fail(rt, b"tdd: cannot open ", b"a script", why);
+            None
         }
     }
 }
 
-// Answers the script on standard input, and whether the next one can be run.
-fn answer_input(forms: &[u8]) -> bool {
-    files::ended(scripts::answer_all(0, forms), b"standard input")
-}
-
-// Answers the script that argument i names, and whether the next one can be run.
-fn answer_argument(i: usize, several: bool, forms: &[u8]) -> bool {
-    let mut path = io::buffer();
-    let n = os::arg(i, &mut path);
-    if os::errno() != 0 {
-        files::fail(b"tdd: cannot open ", b"a script");
-        return true;
-    }
-    answer_file(&path[..n], several, forms)
-}
-
-// Answers the script with this name, `-` for standard input, and whether the next one can be run. Where there are several it says first which.
-fn answer_file(name: &[u8], several: bool, forms: &[u8]) -> bool {
-    if several && !files::heading(name) {
-        return files::ended(Ending::NotWritten, name);
+// The same for the script with this name, `-` for standard input. Where there are several it says first which.
+fn answer_file(rt: &HostRuntime, name: &[u8], several: bool, forms: &[u8]) -> Option<ExitCode> {
+    if several {
+        if let Err(why) = files::heading(rt, name) {
+            return files::ended(rt, Ending::NotWritten(why), name);
+        }
     }
     if words::same(name, b"-") {
-        return answer_input(forms);
+        return answer_input(rt, forms);
     }
-    let fd = files::opened(name);
-    if fd < 0 {
-        return true;
-    }
-    let goes_on = files::ended(scripts::answer_all(fd, forms), name);
-    libc::close(fd);
-    goes_on
+    let source = files::opened(rt, name)?;
+    files::ended(rt, scripts::answer_all(source, rt.stdout(), forms), name)
 }

@@ -1,34 +1,62 @@
 // Answers are gathered in a buffer that goes to standard output when it is full, and before the program waits for input. `n` bytes of
 // the buffer are used; each function answers the new n. Once a write has failed n is FAILED, and nothing more is written.
 use crate::complement::not_negative;
+use itoa::Buffer;
+use std::io::{Error, ErrorKind, Print, Stdout};
 
 pub const ROOM: usize = 65536;
 
 pub const FAILED: usize = 65537;
 
-pub type Answers = [u8; ROOM];
-
-// Writes what the buffer has.
-pub fn flush(out: &Answers, n: usize) -> usize {
-    if write_first(out, n) { 0 } else { FAILED }
+#[derive(Drop)]
+pub struct Answers {
+    bytes: [u8; ROOM],
+    to: Stdout,
+    // Of the write that failed.
+    error: Option<Error>,
 }
 
-fn write_first(s: &[u8], n: usize) -> bool {
-    if n > s.len() {
-        return false;
+impl Answers {
+    pub fn new(to: Stdout) -> Answers {
+        Answers {
+            bytes: [0; ROOM],
+            to,
+            error: None,
+        }
     }
-    io::write_all(1, &s[0..n])
+
+    // Why n is FAILED.
+    pub fn error(&self) -> Error {
+        match self.error {
+            Some(error) => error,
+            None => Error::from(ErrorKind::WriteZero),
+        }
+    }
+}
+
+// Writes what the buffer has.
+pub fn flush(out: &mut Answers, n: usize) -> usize {
+    if n > ROOM {
+        return FAILED;
+    }
+    match out.to.write_all(&out.bytes[..n]) {
+        Ok(()) => 0,
+        Err(error) => {
+            out.error = Some(error);
+            FAILED
+        }
+    }
 }
 
 pub fn byte(out: &mut Answers, n: usize, b: u8) -> usize {
     if n < ROOM {
-        out[n] = b;
+        out.bytes[n] = b;
         return n + 1;
     }
     if flush(out, n) == FAILED {
         return FAILED;
     }
-    out[0] = b;
+    out.bytes[0] = b;
     1
 }
 
@@ -41,9 +69,8 @@ pub fn text(out: &mut Answers, n: usize, s: &[u8]) -> usize {
 }
 
 pub fn number(out: &mut Answers, n: usize, x: u64) -> usize {
-    let mut digits = [0u8; 20];
-    let k = io::decimal(x, &mut digits);
-    text(out, n, &digits[..k])
+    let mut digits = Buffer::new();
+    text(out, n, digits.format(x).as_bytes())
 }
 
 fn wide(x: u32) -> u64 {

@@ -1,61 +1,131 @@
 // Scripts by their names, and what is told where one cannot be read or answered.
-use crate::answers;
 use crate::answers::{Answers, FAILED};
+use crate::{answers, words};
+use std::fs::{File, OpenOptions};
+use std::io::{Cursor, Error, ErrorKind, Read, Stderr, Stdin, Write};
+use std::process::ExitCode;
+use std::rt::HostRuntime;
+use std::{fs, io};
 
-// How a script's run ended; where a read or a write failed, errno says why.
+// Linux's EILSEQ.
+const NOT_TEXT: i32 = 84;
+
+// The status with which a program ends whose answers nobody reads any more, as if the signal SIGPIPE had ended it. Nothing is told then.
+const UNREAD: u8 = 141;
+
+// What a script is read from. A file is closed where it is dropped.
+#[derive(Drop)]
+pub enum Source {
+    Standard(Stdin),
+    File(File),
+}
+
+impl Source {
+    // Reads once, and answers how many bytes came: none at the end.
+    pub fn read(&mut self, part: &mut [u8]) -> io::Result<usize> {
+        match self {
+            Source::Standard(input) => input.read(part),
+            Source::File(file) => file.read(part),
+        }
+    }
+}
+
+// How a script's run ended; where a read or a write failed, the error says why.
 #[derive(Drop)]
 pub enum Ending {
     Whole,
-    NotRead,
-    NotWritten,
+    NotRead(Error),
+    NotWritten(Error),
 }
 
 // How a run ended whose last answers, n bytes, are to be written.
-pub fn last(out: &Answers, n: usize) -> Ending {
+pub fn last(out: &mut Answers, n: usize) -> Ending {
     if answers::flush(out, n) == FAILED {
-        return Ending::NotWritten;
+        return Ending::NotWritten(out.error());
     }
     Ending::Whole
 }
 
-// Says what failed, and why, on standard error. The program has no exit status: the command ./tdd gives it a descriptor 3 for that.
-pub fn fail(what: &[u8], name: &[u8]) {
-    io::write_all(2, what);
-    os::fail(name);
-    io::write_all(3, b"failed\n");
+// Says what failed, and why, on standard error, and to the command ./tdd that something did.
+pub fn fail(rt: &HostRuntime, what: &[u8], name: &[u8], why: Error) {
+    let _ = tell(rt.stderr(), what, name, why);
+    let _ = tell_command(rt);
 }
 
-// Tells how the run of the script with this name ended, and answers whether the next one can be run.
-pub fn ended(ending: Ending, name: &[u8]) -> bool {
+fn tell(to: Stderr, what: &[u8], name: &[u8], why: Error) -> io::Result<()> {
+    let mut text = Cursor::new([0u8; 128]);
+    let _ = write!(text, "{why}");
+    to.write_all(what)?;
+    to.write_all(name)?;
+    to.write_all(b": ")?;
+    to.write_all(without_number(&text.into_inner()))?;
+    to.write_all(b"\n")
+}
+
+// The words of an error's text: what stands before its number, or before the zeros after it.
+fn without_number(text: &[u8]) -> &[u8] {
+    let end = words::index(text, 0, 0);
+    for i in 0..end {
+        let number = words::part(text, i, std::num::wrapping_add_usize(i, 11));
+        if words::same(number, b" (os error ") {
+            return words::part(text, 0, i);
+        }
+    }
+    words::part(text, 0, end)
+}
+
+// The command ./tdd gives the program a descriptor 3 for this. It is left alone where it is closed, or open for reading alone:
+// then the link to it has no write bits.
+fn tell_command(rt: &HostRuntime) -> io::Result<()> {
+    let name = "/proc/self/fd/3";
+    if fs::symlink_metadata(rt, name)?.permissions().readonly() {
+        return Ok(());
+    }
+    let mut file = OpenOptions::new().append(true).open(rt, name)?;
+    file.write_all(b"failed\n")
+}
+
+// Tells how the run of the script with this name ended, and answers the status to end with where no next one can be run.
+pub fn ended(rt: &HostRuntime, ending: Ending, name: &[u8]) -> Option<ExitCode> {
     match ending {
-        Ending::Whole => true,
-        Ending::NotRead => {
-            fail(b"tdd: cannot read ", name);
-            true
+        Ending::Whole => None,
+        Ending::NotRead(why) => {
+            fail(rt, b"tdd: cannot read ", name, why);
+            None
         }
-        Ending::NotWritten => {
-            fail(b"tdd: cannot write ", b"the answers");
-            false
+        Ending::NotWritten(why) => {
+            if why.kind() == ErrorKind::BrokenPipe {
+                return Some(ExitCode::from(UNREAD));
+            }
+            fail(rt, b"tdd: cannot write ", b"the answers", why);
+            Some(ExitCode::SUCCESS)
         }
     }
 }
 
-// Writes a script's name before its answers, and answers whether that could be done.
-pub fn heading(name: &[u8]) -> bool {
-    if !io::write_all(1, b"==> ") {
-        return false;
-    }
-    if !io::write_all(1, name) {
-        return false;
-    }
-    io::write_all(1, b" <==\n")
+// Writes a script's name before its answers, where that can be done.
+pub fn heading(rt: &HostRuntime, name: &[u8]) -> io::Result<()> {
+    let to = rt.stdout();
+    to.write_all(b"==> ")?;
+    to.write_all(name)?;
+    to.write_all(b" <==\n")
 }
 
-// Opens the script with this name; where it cannot, that is told, and the descriptor is negative.
-pub fn opened(name: &[u8]) -> i32 {
-    let fd = os::open_read(name);
-    if fd < 0 {
-        fail(b"tdd: cannot open ", name);
+// Opens the script with this name; where it cannot, that is told, and there is none.
+pub fn opened(rt: &HostRuntime, name: &[u8]) -> Option<Source> {
+    match open(rt, name) {
+        Ok(file) => Some(Source::File(file)),
+        Err(why) => {
+            fail(rt, b"tdd: cannot open ", name, why);
+            None
+        }
     }
-    fd
+}
+
+// Only a name that is text can be opened.
+fn open(rt: &HostRuntime, name: &[u8]) -> io::Result<File> {
+    match str::from_utf8(name) {
+        Ok(text) => File::open(rt, text),
+        Err(_) => Err(Error::from_raw_os_error(NOT_TEXT)),
+    }
 }

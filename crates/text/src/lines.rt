@@ -1,7 +1,8 @@
 // The lines of an input that is read in pieces. A line has at most 65,536 bytes; a longer one is cut after one byte more, and what follows is dropped.
 use crate::answers::{Answers, FAILED};
-use crate::files::Ending;
+use crate::files::{Ending, Source};
 use crate::{answers, words};
+use std::io;
 
 // One byte more than the longest line, for its line end.
 pub const ROOM: usize = 65537;
@@ -10,7 +11,7 @@ pub type Buffer = [u8; ROOM];
 
 #[derive(Drop)]
 pub struct Input {
-    pub fd: i32,
+    pub source: Source,
     // The bytes that wait: buf[from..to].
     pub from: usize,
     pub to: usize,
@@ -28,16 +29,9 @@ pub enum Step {
     End,
 }
 
-#[derive(Drop)]
-struct Filled {
-    // A read failed; errno says why.
-    failed: bool,
-    input: Input,
-}
-
-pub fn first(fd: i32) -> Input {
+pub fn first(source: Source) -> Input {
     Input {
-        fd,
+        source,
         from: 0,
         to: 0,
         skips: false,
@@ -75,53 +69,24 @@ fn move_down(s: &mut Buffer, from: usize, to: usize) -> usize {
     n
 }
 
-// Reads once into s[at..].
-fn read_at(fd: i32, s: &mut [u8], at: usize) -> Got {
+// Reads once into s[at..], and answers how many bytes came: none at the end.
+fn read_at(source: &mut Source, s: &mut [u8], at: usize) -> io::Result<usize> {
     if at > s.len() {
-        return Got::End;
+        return Ok(0);
     }
-    let part = &mut s[at..];
-    let got = libc::read(fd, part);
-    if got < 0 {
-        return Got::Failed;
-    }
-    if got == 0 {
-        return Got::End;
-    }
-    Got::Bytes(io::count(got, part))
-}
-
-#[derive(Drop)]
-enum Got {
-    Bytes(usize),
-    End,
-    Failed,
+    source.read(&mut s[at..])
 }
 
 // Reads once, past the bytes that wait.
-fn fill(buf: &mut Buffer, input: Input) -> Filled {
-    let to = input.to;
+fn fill(buf: &mut Buffer, input: Input) -> io::Result<Input> {
     let mut next = input;
-    match read_at(input.fd, buf, to) {
-        Got::Failed => Filled {
-            failed: true,
-            input,
-        },
-        Got::End => {
-            next.ended = true;
-            Filled {
-                failed: false,
-                input: next,
-            }
-        }
-        Got::Bytes(got) => {
-            next.to = std::num::wrapping_add_usize(to, got);
-            Filled {
-                failed: false,
-                input: next,
-            }
-        }
+    let got = read_at(&mut next.source, buf, next.to)?;
+    if got == 0 {
+        next.ended = true;
+    } else {
+        next.to = std::num::wrapping_add_usize(next.to, got);
     }
+    Ok(next)
 }
 
 // What waits after one more read; or why there is none.
@@ -132,16 +97,14 @@ pub enum Refilled {
 }
 
 // Writes the n bytes of answers that wait, so that they come before the next line is waited for, and reads once.
-pub fn refill(buf: &mut Buffer, out: &Answers, n: usize, input: Input) -> Refilled {
+pub fn refill(buf: &mut Buffer, out: &mut Answers, n: usize, input: Input) -> Refilled {
     if answers::flush(out, n) == FAILED {
-        return Refilled::Not(Ending::NotWritten);
+        return Refilled::Not(Ending::NotWritten(out.error()));
     }
-    let filled = fill(buf, input);
-    if filled.failed {
-        return Refilled::Not(Ending::NotRead);
+    match fill(buf, input) {
+        Ok(next) => Refilled::Has(next),
+        Err(why) => Refilled::Not(Ending::NotRead(why)),
     }
-    let next = filled.input;
-    Refilled::Has(next)
 }
 
 // Line number `at`, buf[from..to]: line 1 without its byte order mark, where it has one and is not too long.
@@ -159,12 +122,12 @@ fn past_long(buf: &[u8], input: Input) -> Input {
         return input;
     }
     let mut next = input;
-    let end = line_end(buf, input.from, input.to);
-    if end < input.to {
+    let end = line_end(buf, next.from, next.to);
+    if end < next.to {
         next.from = end + 1;
         next.skips = false;
     } else {
-        next.from = input.to;
+        next.from = next.to;
     }
     next
 }
