@@ -52,7 +52,7 @@ static void probe_find_result(void) {
     }
     tdd_find(run(0, 12, 0), re, 1000, im, 999, scratch_re, 1000, scratch_im, 1000);
     tdd_find(run(1, 16, 0), re, 255, im, 255, scratch_re, 1000, scratch_im, 1000);
-    seek_field("tdd_find_result.refusal", 0);
+    seek_refusal("tdd_find_result.refusal");
     seek_field("tdd_find_result.start", 1);
     seek_field("tdd_find_result.size", 2);
     must(note_struct("tdd_find_result") == written(&left[0], &left[1]), "a tdd_find_result's end");

@@ -44,7 +44,7 @@ static void probe_plan_result(void) {
         bench_in_plan = where_bench(&left[runs - 1], &taken);
     }
     must(written(&left[0], &left[1]) == bench_in_plan + bench_size, "a tdd_plan_result's end");
-    refusal_in_plan = seek_field("tdd_plan_result.refusal", 0);
+    refusal_in_plan = seek_refusal("tdd_plan_result.refusal");
     place_in_plan = seek_field("tdd_plan_result.place", 1);
 }
 

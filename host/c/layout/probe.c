@@ -91,6 +91,15 @@ span seek_field(const char *name, size_t column) {
     return field;
 }
 
+span seek_refusal(const char *name) {
+    size_t before = widest;
+    span field;
+    widest = 4;
+    field = seek_field(name, 0);
+    widest = before;
+    return field;
+}
+
 /* The last byte that is the same over both patterns is the last that was written. */
 size_t written(const bytes *over_one, const bytes *over_other) {
     size_t end = ROOM;

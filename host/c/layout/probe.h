@@ -44,6 +44,9 @@ span seek(const char *name, size_t column);
 /* Seeks a column, and notes it as that field of a result. */
 span seek_field(const char *name, size_t column);
 
+/* A refusal that has a hole behind it, which the library fills with zeroes: they look like more of the number, so no more than 4 bytes are taken for it. */
+span seek_refusal(const char *name);
+
 int holds(const bytes *b, span field, int64_t number);
 uint64_t value(const bytes *b, span field);
 /* Takes the next byte into a field that is found byte by byte. */

@@ -66,7 +66,7 @@ static void probe_call_result(void) {
         }
     }
     bench_size = end - bench_in_call;
-    refusal_in_call = seek_field("tdd_call_result.refusal", 0);
+    refusal_in_call = seek_refusal("tdd_call_result.refusal");
 }
 
 /* Refused draws, which count 0, and draws of 1, 300 and the 2,259 chips that are then left. */
@@ -94,7 +94,7 @@ static void probe_draw_result(void) {
     run_draws(1);
     for (size_t i = 0; i < other; i++)
         must(written(&left[i], &left[other + i]) == bench_in_draw + bench_size, "a tdd_draw_result's end");
-    seek_field("tdd_draw_result.refusal", 0);
+    seek_refusal("tdd_draw_result.refusal");
     seek_field("tdd_draw_result.count", 1);
 }
 
