@@ -16,7 +16,7 @@ const READ: usize = 3;
 const BITS: usize = 4;
 
 // `count` values of a kind, which stand in the memory from `at` on.
-#[derive(Drop)]
+#[derive(Clone, Copy)]
 pub struct List {
     pub kind: usize,
     pub at: usize,

@@ -12,14 +12,14 @@ use script::rows::DRAW;
 mod drawing;
 
 // What a line finds and leaves.
-#[derive(Drop)]
+#[derive(Clone, Copy)]
 pub struct State {
     pub bench: Bench,
     pub recording: Recording,
 }
 
 // What a line leaves, and what it is answered.
-#[derive(Drop)]
+#[derive(Clone, Copy)]
 pub struct Left {
     pub state: State,
     pub answer: LineAnswer,

@@ -23,7 +23,7 @@ pub struct Recording {
 }
 
 // What a line leaves of it, and what the line is answered.
-#[derive(Drop)]
+#[derive(Clone, Copy)]
 pub struct RecordingLeft {
     pub recording: Recording,
     pub answer: LineAnswer,

@@ -8,7 +8,7 @@ use text::numbers::{Component, Natural};
 use text::{numbers, words};
 
 // The numbers of a line, and where it goes on after them; or what is wrong.
-#[derive(Drop)]
+#[derive(Clone, Copy)]
 pub struct Numbers {
     pub fault: Fault,
     pub rest: usize,
@@ -16,7 +16,7 @@ pub struct Numbers {
 }
 
 // A line's form, which has row 0 where the line has no name of a call, and its numbers.
-#[derive(Drop)]
+#[derive(Clone, Copy)]
 pub struct Line {
     pub form: Form,
     pub numbers: Numbers,
@@ -152,7 +152,7 @@ fn first(count: usize, line: &[u8], from: usize) -> Numbers {
 }
 
 // A chip, re and im, and where the line goes on after it.
-#[derive(Drop)]
+#[derive(Clone, Copy)]
 pub enum Chip {
     Is(i32, i32, usize),
     End,

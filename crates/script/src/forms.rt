@@ -55,7 +55,7 @@ fn begins_with(row: &[u8], name: &[u8]) -> bool {
 }
 
 // How many words a form has after its name and before any in brackets, and whether there are some in brackets.
-#[derive(Drop)]
+#[derive(Clone, Copy)]
 pub struct Arity {
     pub count: usize,
     pub more: bool,

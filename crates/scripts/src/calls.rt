@@ -7,7 +7,7 @@ use text::answers::Answers;
 use text::lines;
 
 // The state, and how many bytes of the answers are used.
-#[derive(Drop)]
+#[derive(Clone, Copy)]
 pub struct Now {
     pub state: State,
     pub n: usize,

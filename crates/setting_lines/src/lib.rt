@@ -39,7 +39,7 @@ pub fn call(
 }
 
 // The bench after a call, and what the call is answered.
-#[derive(Drop)]
+#[derive(Clone, Copy)]
 pub struct BenchLeft {
     pub bench: Bench,
     pub answer: LineAnswer,

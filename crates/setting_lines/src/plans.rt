@@ -5,7 +5,7 @@ use text::numbers::Natural;
 use text::{numbers, words};
 
 // How many records there are, and the first 17; or what is wrong. At most 16 codes can be open together, so the first 17 decide.
-#[derive(Drop)]
+#[derive(Clone, Copy)]
 pub struct Plan {
     pub fault: Fault,
     pub count: usize,

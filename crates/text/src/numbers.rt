@@ -3,13 +3,13 @@ ghost use Rattle.std.specs.Prelude.{◌≡◌, ◌-◌, pos, neg_ℤ, if◌then�
 ghost use Rattle.std.proofs.Math.Option.{some, none};
 ghost use Rattle.text.specs.Decimal.{at_most, component_in, is_digit, natural_in, number_of_component, number_of_natural, decimal_value};
 
-#[derive(Drop)]
+#[derive(Clone, Copy)]
 pub enum Natural {
     Is(u32),
     Bad,
 }
 
-#[derive(Drop)]
+#[derive(Clone, Copy)]
 pub enum Component {
     Is(i32),
     Bad,
