@@ -1,5 +1,5 @@
 # make test: every check of the repository; its last line is rt ci's verdict.
-# make libraries: prove the libraries for hosts and build them into lib/, which stays when target/ goes.
+# make libraries: prove the libraries for hosts and build them into lib/; each is made in its crate's folder out/, which rt ci sets aside.
 # make benchmark: build what it needs and print the two tables of docs/PERFORMANCE.md.
 .PHONY: test libraries benchmark
 .NOTPARALLEL:
@@ -9,7 +9,7 @@ test:
 
 libraries: lib/libtdd_bench.a lib/libtdd_codes.a
 
-# The crate behind each library: a library that other crates use is exported by a crate of its own.
+# The crate behind a library, where it has another name: what other crates use is exported by a crate of its own.
 CRATE_tables := tables_c
 
 lib/lib%.a: crates.txt $(shell find crates -path '*/src/*' -o -path '*/specs/*' -o -path '*/proofs/*')

@@ -1,5 +1,5 @@
 #!/bin/sh
-# Every check of the repository: the texts first, then rt ci, then the program, the libraries and the compiler's refusals, on what rt ci has proved and built.
+# Every check of the repository: the texts first, then rt ci, then the program, the libraries and the compiler's refusals, which take what rt check keeps.
 # The last line is rt ci's verdict, held back until all the rest has passed; where anything fails, the status is not 0 and that line does not come.
 set -eu
 cd "$(dirname "$0")/.."

@@ -102,7 +102,7 @@ impl Bench {
     pub fn draw(&mut self, re: &mut [i32], im: &mut [i32]) -> Result<usize, Refusal> {
         // SAFETY: the slices have as many entries as they say, and, lent to be written, overlap nothing.
         let result = unsafe { ffi::tdd_bench_draw(self.0, re.as_mut_ptr(), re.len(), im.as_mut_ptr(), im.len()) };
-        // Of the bench a draw changes these two alone (law `draw-keeps`), so the rest, some 4.6 KB, is not copied back for every piece.
+        // Of the bench a draw changes these two alone (law `draw_keeps`), so the rest, some 4.6 KB, is not copied back for every piece.
         self.0.running = result.bench.running;
         self.0.position = result.bench.position;
         Refusal::check(result.refusal).map(|()| result.count)
