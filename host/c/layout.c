@@ -7,11 +7,12 @@
  * the headers: they call the exports as the System V ABI for x86-64 has them (layout/exports.h), on garbage.
  *
  * Alignment cannot be seen. It is taken from the ABI's rule: a number is aligned to its size, an array as its entries,
- * a struct as the most aligned of its fields. The holes that the rule leaves are seen: in a result the bench is at 8
- * behind 4 bytes, in a bench sending is at 2304 behind one byte and position at 4608 behind settings that end at 4604,
- * in settings sync is at 2280 behind pairs that end at 2278, in sync sync_case is at 4 behind one byte, in a find's
- * result start is at 8 behind 4 bytes. That no more is asked is seen where a size is an odd number of times the
- * alignment: a bench 4616, settings 2300, sync 20, a record 12, a modulated code 12. The rest is the rule's.
+ * a struct as the most aligned of its fields. The holes that the rule leaves are seen: in a bench sending is at 2304
+ * behind one byte and position at 4608 behind settings that end at 4604, in settings sync is at 2280 behind pairs that
+ * end at 2278, in sync sync_case is at 4 behind one byte. In a result what stands behind the refusal is at 8; that the
+ * refusal has 4 bytes and a hole behind it is taken from its type, since a library may fill the hole with zeroes. That
+ * no more is asked is seen where a size is an odd number of times the alignment: a bench 4616, settings 2300, sync 20,
+ * a record 12, a modulated code 12. The rest is the rule's.
  */
 #include <stddef.h>
 #include <stdio.h>
