@@ -116,7 +116,7 @@ touch -d '1 hour' "$room/copy/crates/tdd/src/main.rt"
 copied "a run after a source was changed" 0 "$proving"
 touch "$room/copy/crates/wrong"
 copied "a run of a program that is not proved" 2 "$proving
-rt run
+rt run --cpu x86-64
 tdd: the program is not proved; target/tdd.log says why"
 [ ! -e "$room/copy/target/bin/tdd" ] || fail "a program that is not proved stays"
 rm -r "$room/copy/crates"

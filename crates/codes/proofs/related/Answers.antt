@@ -8,7 +8,7 @@ use Rattle.codes.proofs.Leaves.{no_width, some_width}
 use Rattle.codes.proofs.related.Goals as goal
 use Rattle.codes.proofs.related.Goals.{Else-width-eq0, Else-width-eq0-2}
 
--- the spreading spreading-factors passed their tests
+-- the spreading factors passed their tests
 first_factor : (c : Else-width-eq0) → is_spreading_factor c.args.q1 ≡ true
 first_factor c = some_width c.args.q1 (λ z. c.if-width-eq0.false (c.width.ensures ∙ z))
 
