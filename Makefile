@@ -12,7 +12,7 @@ libraries: lib/libtdd_bench.a lib/libtdd_codes.a
 # The crate behind a library, where it has another name: what other crates use is exported by a crate of its own.
 CRATE_tables := tables_c
 
-lib/lib%.a: crates.txt $(shell find crates/*/src crates/*/specs crates/*/proofs -type f 2>/dev/null)
+lib/lib%.a: crates.txt $(shell find crates/*/src crates/*/specs crates/*/proofs 2>/dev/null)
 	@mkdir -p lib target
 	@echo "make: proving and building $@, which takes some minutes the first time" >&2
 	@crate=$(or $(CRATE_$*),$*); (cd crates/$$crate && rt lib --cpu x86-64) >target/$*.log 2>&1 || { tail -n 5 target/$*.log >&2; echo "make: $@ is not proved; target/$*.log says why" >&2; exit 1; }; \

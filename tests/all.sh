@@ -11,7 +11,7 @@ room=$(mktemp -d)
 trap 'rm -rf "$room"' EXIT
 # What rt ci says is shown as it comes, but for its last line; through a fifo, since behind a pipe its status would be lost.
 mkfifo "$room/said"
-tee "$room/all" <"$room/said" | sed '$d' &
+tee "$room/all" <"$room/said" | sed -u '$d' &
 status=0
 rt ci >"$room/said" 2>&1 || status=$?
 wait

@@ -1,11 +1,10 @@
 // Scripts by their names, and what is told where one cannot be read or answered.
 use crate::answers::{Answers, FAILED};
 use crate::{answers, words};
-use std::fs::{File, OpenOptions};
+use std::fs::File;
 use std::io::{Cursor, Error, ErrorKind, Read, Stderr, Stdin, Write};
 use std::process::ExitCode;
 use std::rt::HostRuntime;
-use std::{fs, io};
 
 // Linux's EILSEQ.
 const NOT_TEXT: i32 = 84;
@@ -22,7 +21,7 @@ pub enum Source {
 
 impl Source {
     // Reads once, and answers how many bytes came: none at the end.
-    pub fn read(&mut self, part: &mut [u8]) -> io::Result<usize> {
+    pub fn read(&mut self, part: &mut [u8]) -> std::io::Result<usize> {
         match self {
             Source::Standard(input) => input.read(part),
             Source::File(file) => file.read(part),
@@ -46,20 +45,21 @@ pub fn last(out: &mut Answers, n: usize) -> Ending {
     Ending::Whole
 }
 
-// Says what failed, and why, on standard error, and to the command ./tdd that something did.
+// Says what failed, and why, on standard error. The program's status does not tell it: the command ./tdd gives it a descriptor 3 for that.
 pub fn fail(rt: &HostRuntime, what: &[u8], name: &[u8], why: Error) {
-    let _ = tell(rt.stderr(), what, name, why);
-    let _ = tell_command(rt);
+    tell(rt.stderr(), what, name, why);
+    io::write_all(3, b"failed\n");
 }
 
-fn tell(to: Stderr, what: &[u8], name: &[u8], why: Error) -> io::Result<()> {
+// A write that fails keeps none of those after it back.
+fn tell(to: Stderr, what: &[u8], name: &[u8], why: Error) {
     let mut text = Cursor::new([0u8; 128]);
     let _ = write!(text, "{why}");
-    to.write_all(what)?;
-    to.write_all(name)?;
-    to.write_all(b": ")?;
-    to.write_all(without_number(&text.into_inner()))?;
-    to.write_all(b"\n")
+    let _ = to.write_all(what);
+    let _ = to.write_all(name);
+    let _ = to.write_all(b": ");
+    let _ = to.write_all(without_number(&text.into_inner()));
+    let _ = to.write_all(b"\n");
 }
 
 // The words of an error's text: what stands before its number, or before the zeros after it.
@@ -72,17 +72,6 @@ fn without_number(text: &[u8]) -> &[u8] {
         }
     }
     words::part(text, 0, end)
-}
-
-// The command ./tdd gives the program a descriptor 3 for this. It is left alone where it is closed, or open for reading alone:
-// then the link to it has no write bits.
-fn tell_command(rt: &HostRuntime) -> io::Result<()> {
-    let name = "/proc/self/fd/3";
-    if fs::symlink_metadata(rt, name)?.permissions().readonly() {
-        return Ok(());
-    }
-    let mut file = OpenOptions::new().append(true).open(rt, name)?;
-    file.write_all(b"failed\n")
 }
 
 // Tells how the run of the script with this name ended, and answers the status to end with where no next one can be run.
@@ -104,7 +93,7 @@ pub fn ended(rt: &HostRuntime, ending: Ending, name: &[u8]) -> Option<ExitCode> 
 }
 
 // Writes a script's name before its answers, where that can be done.
-pub fn heading(rt: &HostRuntime, name: &[u8]) -> io::Result<()> {
+pub fn heading(rt: &HostRuntime, name: &[u8]) -> std::io::Result<()> {
     let to = rt.stdout();
     to.write_all(b"==> ")?;
     to.write_all(name)?;
@@ -123,7 +112,7 @@ pub fn opened(rt: &HostRuntime, name: &[u8]) -> Option<Source> {
 }
 
 // Only a name that is text can be opened.
-fn open(rt: &HostRuntime, name: &[u8]) -> io::Result<File> {
+fn open(rt: &HostRuntime, name: &[u8]) -> std::io::Result<File> {
     match str::from_utf8(name) {
         Ok(text) => File::open(rt, text),
         Err(_) => Err(Error::from_raw_os_error(NOT_TEXT)),
