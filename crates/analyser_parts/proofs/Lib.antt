@@ -5,3 +5,4 @@ pub mod Choosing
 pub mod Bounds
 pub mod Products
 pub mod Correlations
+pub mod Steps

@@ -1,6 +1,6 @@
 -- Lists whose components are in range, and the scan that tests them. Assumes nothing.
 use mathlib.Core.Path.{◌≡◌, refl, sym, ◌∙◌}
-use mathlib.Core.Bool.{Bool, true, false, ◌||◌, not, and-true, or-true}
+use mathlib.Core.Bool.{Bool, true, false, ◌||◌, not, and-true, or-false}
 use mathlib.Core.List.{List, [], ◌∷◌, ◌++◌}
 use Prim.Native.Nat.{ℕ, zero, suc, ◌+◌, ◌≤◌, ◌<◌}
 use native.Mathlib.Numerals.{add-one}
@@ -32,18 +32,15 @@ pub not_outside : (l : List ℤ) → outside l ≡ false → Bound component_lim
 not_outside l e = record { at = at_most l e }
 
 -- ---- the scan: what it found before place i, or what it finds from there on
-swapped : (s t u : Bool) → (s || t || u) ≡ (t || (s || u))
-swapped true t u = sym (or-true t)
-swapped false t u = refl
-
 pub scan_more : (found : Bool) (l : List ℤ) (i : ℕ) → i < length l
-    → (not (in_range (get_or l i (pos 0))) || found || outside (drop (i + 1) l)) ≡ (found || outside (drop i l))
+    → ((found || not (in_range (get_or l i (pos 0)))) || outside (drop (i + 1) l)) ≡ (found || outside (drop i l))
 unfolding outside
-scan_more found l i h = rw (add-one i, drop-cons l i (pos 0) h) (swapped (not (in_range (get_or l i (pos 0)))) found (outside (drop (suc i) l)))
+scan_more true l i h = refl
+scan_more false l i h = sym (rw (add-one i, drop-cons l i (pos 0) h))
 
-pub scan_end : (l : List ℤ) (i : ℕ) → length l ≤ i → outside (drop i l) ≡ false
+pub scan_end : (found : Bool) (l : List ℤ) (i : ℕ) → length l ≤ i → (found || outside (drop i l)) ≡ found
 unfolding outside
-scan_end l i h = rw (drop_of_length-le l {i = i} h)
+scan_end found l i h = rw (drop_of_length-le l {i = i} h) (or-false found)
 
 -- ---- components that are small enough are not refused
 within_range : {x : ℤ} → Within component_limit x → in_range x ≡ true

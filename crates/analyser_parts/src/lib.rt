@@ -6,4 +6,3 @@
 pub mod components;
 pub mod correlation;
 pub mod largest;
-pub mod wide;

@@ -1,71 +1,97 @@
 // A line's answer as text.
 #![tactic(auto)]
 
+use bench::Bench;
+use codes::ModulatedCode;
 use script::answer::LineAnswer;
+use script::faults::Fault;
+use script::forms::FORMS;
 use script::memory::Memory;
-use sentences::sentence::{NEAR, Sentence, UNKNOWN};
-use sentences::{Context, filled, nearest, refusals, sentence};
+use sentences::{Context, faults, refusals};
+use std::fmt;
+use std::io::{self, Write};
 use text::answers::Answers;
-use text::{answers, words};
 
 mod lists;
 mod settings;
 
-// Writes the answer of a line. The forms are for help and for what would be right, the memory has the values of long lines.
+// Writes the answer of a line, or why it is not done. The bench is for the settings, the memory has the values of long lines.
 pub fn print(
     out: &mut Answers,
-    n: usize,
-    a: LineAnswer,
-    c: Context,
-    forms: &[u8],
-    line: &[u8],
+    answer: Result<LineAnswer, Fault<'_>>,
+    c: &Context<'_>,
+    b: &Bench,
     m: &Memory,
-) -> usize {
-    match a {
-        LineAnswer::Nothing => n,
-        LineAnswer::Help => answers::text(out, n, forms),
-        LineAnswer::Refusals => refusals::print(out, n, 0, b""),
-        LineAnswer::Settings(codes, sync, running) => {
-            settings::print(out, n, codes, sync, running, c, m)
-        }
-        _ => {
-            let list = lists::of_answer(a);
-            let k = if list.kind != lists::NONE {
-                let r = c.recording;
-                lists::print(out, n, list, m, r.brief)
-            } else {
-                one_sentence(out, n, sentence::of_answer(a), c, forms, line)
-            };
-            answers::byte(out, k, b'\n')
+) -> io::Result<()> {
+    match answer {
+        Ok(answer) => done(out, answer, c, b, m),
+        Err(fault) => {
+            faults::print(out, fault, c)?;
+            out.byte(b'\n')
         }
     }
 }
 
-// A sentence with the form of the line's call; where the line has no call, with that of the nearest one.
-fn one_sentence(
+fn done(
     out: &mut Answers,
-    n: usize,
-    s: Sentence,
-    c: Context,
-    forms: &[u8],
-    line: &[u8],
-) -> usize {
-    if s.row == UNKNOWN {
-        let w = s.word;
-        let near = nearest::row(forms, words::part(line, w.from, w.to));
-        if near.from < near.to {
-            let mut told = s;
-            told.row = NEAR;
-            return filled::print(
+    answer: LineAnswer,
+    c: &Context<'_>,
+    b: &Bench,
+    m: &Memory,
+) -> io::Result<()> {
+    match answer {
+        LineAnswer::Nothing => Ok(()),
+        LineAnswer::Done => writeln!(out, "ok"),
+        LineAnswer::Counted(count) => writeln!(out, "ok {count}"),
+        LineAnswer::Is(true) => writeln!(out, "yes"),
+        LineAnswer::Is(false) => writeln!(out, "no"),
+        LineAnswer::Number(x) => writeln!(out, "{x}"),
+        LineAnswer::Sign(x) => writeln!(out, "{x}"),
+        LineAnswer::Chip(z) => writeln!(out, "{},{}", z.re, z.im),
+        LineAnswer::Allocation(a) => {
+            writeln!(
                 out,
-                n,
-                told,
-                c,
-                words::part(forms, near.from, near.to),
-                line,
-            );
+                "{} {} {}",
+                Sent(a.first),
+                Sent(a.second),
+                Sent(a.marker)
+            )
         }
+        LineAnswer::Burst { group, frame, half } => {
+            writeln!(out, "ok group {} frame {frame} half {half}", group.0)
+        }
+        LineAnswer::Peak { start, size } => writeln!(out, "ok at {start} size {size}"),
+        LineAnswer::Chips { from, count } => {
+            lists::chips(out, &m.recording, from..from.saturating_add(count), c.brief)
+        }
+        LineAnswer::Code(count) => lists::chips(out, &m.code, 0..count, c.brief),
+        LineAnswer::Elements(count) => lists::elements(out, &m.code.re, count),
+        LineAnswer::Readings(count) => {
+            writeln!(out, "ok {count}")?;
+            lists::chips(out, &m.readings, 0..count, c.brief)
+        }
+        LineAnswer::Bits(count) => {
+            writeln!(out, "ok {count}")?;
+            lists::bits(out, m.bits.get(..count).unwrap_or(&[]), c.brief)
+        }
+        LineAnswer::Settings => settings::print(out, b),
+        LineAnswer::Refusals => out.write_all(refusals::TABLE.as_bytes()),
+        LineAnswer::Help => out.write_all(FORMS.as_bytes()),
     }
-    let form = c.form;
-    filled::print(out, n, s, c, words::part(forms, form.from, form.to), line)
+}
+
+// Prints a sync code with its unit, as in -jC13.
+#[derive(Clone, Copy)]
+struct Sent(ModulatedCode);
+
+impl fmt::Display for Sent {
+    fn fmt<W: fmt::Write>(&self, f: &mut fmt::Formatter<W>) -> fmt::Result {
+        let unit = match (self.0.unit.re, self.0.unit.im) {
+            (_, 1) => "j",
+            (-1, _) => "-",
+            (_, -1) => "-j",
+            _ => "",
+        };
+        write!(f, "{unit}C{}", self.0.code)
+    }
 }

@@ -1,126 +1,81 @@
 // Lines of chips, readings, elements and bits.
-use script::answer::LineAnswer;
-use script::memory;
-use script::memory::{LINE, Memory, READINGS};
+use script::memory::Values;
+use std::io::{Result, Write};
+use std::ops::Range;
 use text::answers::Answers;
-use text::{answers, complement};
 
-pub const NONE: usize = 0;
-
-const CHIPS: usize = 1;
-
-const ELEMENTS: usize = 2;
-
-const READ: usize = 3;
-
-const BITS: usize = 4;
-
-// `count` values of a kind, which stand in the memory from `at` on.
-#[derive(Clone, Copy)]
-pub struct List {
-    pub kind: usize,
-    pub at: usize,
-    pub count: usize,
+// Writes the chips at these places as RE,IM, a blank between; in brief their count, the first four and the checksum.
+pub fn chips<const N: usize>(
+    out: &mut Answers,
+    values: &Values<N>,
+    places: Range<usize>,
+    brief: bool,
+) -> Result<()> {
+    let (re, im) = values.range(places).unwrap_or((&[], &[]));
+    if !brief {
+        row(out, re, im, re.len())?;
+        return out.byte(b'\n');
+    }
+    write!(out, "{}: ", re.len())?;
+    row(out, re, im, 4)?;
+    let sum = re
+        .iter()
+        .zip(im)
+        .fold(0, |sum, (x, y)| going_on(going_on(sum, *x), *y));
+    ended(out, re.len(), sum)
 }
 
-// The list that an answer is, or NONE.
-pub fn of_answer(a: LineAnswer) -> List {
-    match a {
-        LineAnswer::Chips(at, count) => List {
-            kind: CHIPS,
-            at,
-            count,
-        },
-        LineAnswer::Elements(count) => List {
-            kind: ELEMENTS,
-            at: LINE,
-            count,
-        },
-        LineAnswer::Readings(count) => List {
-            kind: READ,
-            at: READINGS,
-            count,
-        },
-        LineAnswer::Bits(count) => List {
-            kind: BITS,
-            at: LINE,
-            count,
-        },
-        _ => List {
-            kind: NONE,
-            at: 0,
-            count: 0,
-        },
+// The first `most` chips.
+fn row(out: &mut Answers, re: &[i32], im: &[i32], most: usize) -> Result<()> {
+    let mut blank = false;
+    for (x, y) in re.iter().zip(im).take(most) {
+        out.pair(blank, *x, *y)?;
+        blank = true;
     }
+    Ok(())
 }
 
-pub fn print(out: &mut Answers, n: usize, l: List, m: &Memory, brief: bool) -> usize {
-    let re = memory::part(m, l.at, l.count);
-    let im = memory::im_part(m, l.at, if l.kind == BITS { 0 } else { l.count });
-    let mut k = n;
-    if l.kind == READ || l.kind == BITS {
-        k = answers::counted(out, k, b"ok ", l.count as u64);
-        k = answers::byte(out, k, b'\n');
-    }
-    if brief && l.kind != ELEMENTS {
-        return in_brief(out, k, l.kind, re, im);
-    }
-    row(out, k, l.kind, re, im, l.count)
-}
-
-// The count, the first values and the checksum.
-fn in_brief(out: &mut Answers, n: usize, kind: usize, re: &[i32], im: &[i32]) -> usize {
-    let mut k = answers::number(out, n, re.len() as u64);
-    k = answers::text(out, k, b": ");
-    k = row(out, k, kind, re, im, if kind == BITS { 16 } else { 4 });
-    if re.len() > 0 {
-        k = answers::byte(out, k, b' ');
-    }
-    answers::counted(out, k, b"checksum ", checksum(re, im) as u64)
-}
-
-// The first `most` values, a blank between, but not between bits.
-fn row(out: &mut Answers, n: usize, kind: usize, re: &[i32], im: &[i32], most: usize) -> usize {
-    let mut k = n;
-    for i in 0..re.len() {
-        if i >= most {
-            break;
+// Writes the first `count` elements, a blank between.
+pub fn elements(out: &mut Answers, elements: &[i32], count: usize) -> Result<()> {
+    let mut blank = false;
+    for x in elements.iter().take(count) {
+        if blank {
+            out.byte(b' ')?;
         }
-        if i > 0 && kind != BITS {
-            k = answers::byte(out, k, b' ');
-        }
-        k = item(out, k, kind, re[i], entry(im, i));
+        out.number(*x)?;
+        blank = true;
     }
-    k
+    out.byte(b'\n')
 }
 
-fn entry(s: &[i32], i: usize) -> i32 {
-    if i < s.len() { s[i] } else { 0 }
-}
-
-// A value of a kind: a bit or an element is re alone.
-fn item(out: &mut Answers, n: usize, kind: usize, re: i32, im: i32) -> usize {
-    let mut k = answers::component(out, n, re);
-    if kind == CHIPS || kind == READ {
-        k = answers::byte(out, k, b',');
-        k = answers::component(out, k, im);
+// Writes bits with nothing between; in brief their count, the first 16 and the checksum.
+pub fn bits(out: &mut Answers, bits: &[u8], brief: bool) -> Result<()> {
+    if !brief {
+        digits(out, bits)?;
+        return out.byte(b'\n');
     }
-    k
+    write!(out, "{}: ", bits.len())?;
+    digits(out, &bits[..bits.len().min(16)])?;
+    let sum = bits
+        .iter()
+        .fold(0, |sum, bit| going_on(sum, i32::from(*bit)));
+    ended(out, bits.len(), sum)
 }
 
-// The checksum of values, re and im in turn; where there is no im, of re alone.
-fn checksum(re: &[i32], im: &[i32]) -> u32 {
-    let mut sum: u32 = 0;
-    for i in 0..re.len() {
-        sum = going_on(sum, re[i]);
-        if i < im.len() {
-            sum = going_on(sum, im[i]);
-        }
+fn digits(out: &mut Answers, bits: &[u8]) -> Result<()> {
+    for bit in bits {
+        out.number(*bit)?;
     }
-    sum
+    Ok(())
 }
 
-// 16777619 sum + x, modulo 2^32.
+// The end of a line in brief, after the first ones of so many values.
+fn ended(out: &mut Answers, count: usize, sum: u32) -> Result<()> {
+    let blank = if count > 0 { " " } else { "" };
+    writeln!(out, "{blank}checksum {sum}")
+}
+
+// The checksum once x has come: 16777619 sum + x, modulo 2^32.
 fn going_on(sum: u32, x: i32) -> u32 {
-    ((sum as u64 * 16777619 + complement::word(x) as u64) % 4294967296) as u32
+    sum.wrapping_mul(16777619).wrapping_add(x.cast_unsigned())
 }

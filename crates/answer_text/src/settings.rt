@@ -1,61 +1,46 @@
 // The lines of the settings.
-use script::memory;
-use script::memory::{LINE, Memory};
-use sentences::sentence::{CELL, CODE, NO_CODE, NO_SLOT, NO_SYNC, SYNC, UNDER_WAY};
-use sentences::{Context, filled, sentence};
+use bench::Bench;
+use slot::Sync;
+use std::io::{Result, Write};
 use text::answers::Answers;
-use text::{answers, complement};
 
-// Writes the settings, whose numbers stand at LINE as setting_lines puts them there: three of the cell, three of sync, sync's gains and the chips left, three of each code.
-pub fn print(
-    out: &mut Answers,
-    n: usize,
-    codes: usize,
-    sync: bool,
-    running: bool,
-    c: Context,
-    m: &Memory,
-) -> usize {
-    let mut k = line(out, n, CELL, LINE, c, m);
-    k = code_lines(out, k, codes, c, m);
-    k = line(out, k, if sync { SYNC } else { NO_SYNC }, LINE + 3, c, m);
-    line(
-        out,
-        k,
-        if running { UNDER_WAY } else { NO_SLOT },
-        LINE + 8,
-        c,
-        m,
-    )
+// Writes what is set on the bench, and what its slot has left.
+pub fn print(out: &mut Answers, b: &Bench) -> Result<()> {
+    let s = &b.settings;
+    let group = codes::code_group(s.cell).map_or(0, |group| group.0);
+    writeln!(out, "cell {} group {group} type {}", s.cell.0, s.kind)?;
+    open_codes(out, &s.gains)?;
+    sync(out, s.sync)?;
+    if b.running == 0 {
+        return writeln!(out, "no slot under way");
+    }
+    let left = 2560usize.saturating_sub(b.position);
+    writeln!(out, "slot under way, {left} of 2560 chips left")
 }
 
-fn code_lines(out: &mut Answers, n: usize, codes: usize, c: Context, m: &Memory) -> usize {
-    if codes == 0 {
-        return line(out, n, NO_CODE, LINE, c, m);
+// Factor, index and gain of each open code, by factor and then by index.
+fn open_codes(out: &mut Answers, gains: &[u16; 31]) -> Result<()> {
+    if gains.iter().all(|gain| *gain == 0) {
+        return writeln!(out, "no code is open");
     }
-    let mut k = n;
-    for i in 0..codes {
-        if i >= 31 {
-            break;
+    let mut rest = gains.iter();
+    for q in [1u32, 2, 4, 8, 16] {
+        for (k, gain) in (0..q).zip(rest.by_ref()) {
+            if *gain != 0 {
+                writeln!(out, "code ({q}, {k}) gain {gain}")?;
+            }
         }
-        k = line(out, k, CODE, LINE + 9 + 3 * i, c, m);
     }
-    k
+    Ok(())
 }
 
-// A sentence with the numbers from place `at` of the memory on.
-fn line(out: &mut Answers, n: usize, row: usize, at: usize, c: Context, m: &Memory) -> usize {
-    let x = [
-        number(m, at, 0),
-        number(m, at, 1),
-        number(m, at, 2),
-        number(m, at, 3),
-        number(m, at, 4),
-    ];
-    let k = filled::print(out, n, sentence::with(row, x), c, b"", b"");
-    answers::byte(out, k, b'\n')
-}
-
-fn number(m: &Memory, at: usize, i: usize) -> u64 {
-    complement::word(memory::entry(m, std::num::wrapping_add_usize(at, i))) as u64
+fn sync(out: &mut Answers, s: Sync) -> Result<()> {
+    if s.on == 0 {
+        return writeln!(out, "no sync");
+    }
+    writeln!(
+        out,
+        "sync case {} frame {} half {} gains {} {}",
+        s.case, s.frame, s.half, s.gp, s.gs
+    )
 }

@@ -1,4 +1,4 @@
-pub mod Opened
 pub mod Accepted
+pub mod Opened
 pub mod Loading
 pub mod Plans

@@ -6,7 +6,7 @@ use Prim.Native.Nat.{ℕ, suc, ◌-◌, ◌%◌, ◌<◌}
 use native.Mathlib.Decide.{dec_lt}
 use native.Mathlib.Nat.{zero-div}
 use native.Mathlib.Omega.{arith}
-use borrow.Author.Tests.{eqb-true, not-false}
+use borrow.Author.Tests.{eqb-true, leb-false, not-false}
 use lib.Dec.{T, eqb, eqb→eq}
 use lib.ListN.{length}
 use Rattle.codes.specs.Range.{each}
@@ -18,7 +18,6 @@ use Rattle.slot.specs.Setup.{Setup}
 use Rattle.slot.specs.Slot.{bit_count, slot_parts}
 use Rattle.tables.specs.Bits.{has_byte_above_1}
 use Rattle.bench.specs.BenchCalls.{load_bits_refusals}
-use Rattle.bench.proofs.Accepted.{good_code}
 
 -- ---- a code
 -- it has an even count of bits in every burst type
@@ -45,10 +44,9 @@ module _ (Q k : ℕ) (t : is_spreading_factor Q ≡ true) (h : k < Q) where
 
 -- ---- what the refusal tests leave
 -- this is what `set_bits` requires
-pub load_passed : (s : Setup) (Q k : ℕ) (bits : List ℕ) → Passed (load_bits_refusals s Q k bits)
-    → (is_spreading_factor Q ≡ true) × (k < Q) × (has_byte_above_1 bits ≡ false) × (length bits % 2 ≡ 0)
+pub load_passed : (s : Setup) (Q k : ℕ) (bits : List ℕ) → Passed (load_bits_refusals s Q k bits) → (has_byte_above_1 bits ≡ false) × (length bits % 2 ≡ 0)
 load_passed s Q k bits p =
-    let c = good_code Q k p.0 p.1.0 in
     let n = bit_count s.type Q in
     let e = eqb-true (length bits) n (not-false (eqb (length bits) n) p.1.1.1.0) in
-    (c.factor, c.below, p.1.1.1.1.0, rw e (even_count Q k c.factor c.below s.type))
+    let factor = not-false (is_spreading_factor Q) p.0 in
+    (p.1.1.1.1.0, rw e (even_count Q k factor (leb-false Q k p.1.0) s.type))

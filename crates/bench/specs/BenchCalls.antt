@@ -1,10 +1,11 @@
 -- Document 01, "Bench calls". Each call is its refusals, in the document's order, then its change. A refusal that asks for settings speaks of the
 -- document's own (`Setup`, by `view`).
-use Rattle.std.specs.Prelude.{ℕ, suc, ◌+◌, ◌-◌, min, List, [], ◌∷◌, Bool, false, not, ◌&&◌, ◌||◌, cond, eqb, leb, length, replicate}
+use Rattle.std.specs.Prelude.{ℕ, Result, Ok, Err, suc, ◌+◌, ◌-◌, min, List, [], ◌∷◌, Bool, false, not, ◌&&◌, ◌||◌, cond, eqb, leb, length, replicate}
 use Rattle.complex.specs.Buffers.{Values, in_buffers}
 use Rattle.codes.specs.declared.CellParameter.{CellParameter}
+use Rattle.codes.specs.Answers.{number_of}
 use Rattle.codes.specs.Range.{any}
-use Rattle.codes.specs.Refusals.{Answer, refused, gives, Refusal, ◌if◌, ◌otherwise◌, after}
+use Rattle.codes.specs.Refusals.{Answer, refused, gives, RefusalRule, ◌if◌, ◌otherwise◌, after}
 use Rattle.codes.specs.Tree.{among, is_spreading_factor, over_factors, related}
 use Rattle.codes.specs.Allocation.{one_or_two, bad_frame_or_half}
 use Rattle.slot.specs.declared.Settings.{Settings}
@@ -14,12 +15,7 @@ use Rattle.slot.specs.View.{view}
 use Rattle.tables.specs.Bits.{has_byte_above_1}
 use Rattle.bench.specs.declared.Bench.{Bench}
 use Rattle.bench.specs.declared.Channel.{Channel}
-use Rattle.bench.specs.declared.CallAnswer.{CallAnswer}
-use Rattle.bench.specs.declared.CallAnswer.TheVariants.{Accepted, Refused}
-use Rattle.bench.specs.declared.PlanAnswer.{PlanAnswer}
-use Rattle.bench.specs.declared.PlanAnswer.TheVariants.{Loaded, Refused as RefusedPlan}
-use Rattle.bench.specs.declared.DrawAnswer.{DrawAnswer}
-use Rattle.bench.specs.declared.DrawAnswer.TheVariants.{Drew, Refused as RefusedDraw}
+use Rattle.bench.specs.declared.PlanRefusal.{PlanRefusal}
 use Rattle.bench.specs.Changes.{with_gain, with_bits, with_sync, no_sync, cell_settings, all_closed, with_settings}
 
 -- "the air: no slot, or a copy of the settings with a position": the copy is `sending`, and counts while `running` is not 0
@@ -38,7 +34,7 @@ abbrev pub left_by : Answer Bench → Bench → Bench
 left_by r b = after r b (λ new. new)
 
 -- Set cell (parameter, type) closes every code and clears sync. Refuses 1 parameter above 127; 2 type not 1, 2, 3.
-abbrev pub set_cell_refusals : ℕ → ℕ → List Refusal
+abbrev pub set_cell_refusals : ℕ → ℕ → List RefusalRule
 set_cell_refusals p t = 1 if leb 128 p ∷ 2 if not (among t (1 ∷ 2 ∷ 3 ∷ [])) ∷ []
 
 abbrev pub set_cell_call : Bench → CellParameter → ℕ → Answer Bench
@@ -57,7 +53,7 @@ abbrev pub related_to_open : Setup → ℕ → ℕ → Bool
 related_to_open s Q k = some_code (λ Q' k'. is_open s Q' k' && related Q' k' Q k)
 
 -- Open (Q, k, gain) gives bits all 0. Refuses 3 bad Q; 4 k not below Q; 5 gain not 1 to 4095; 6 related to an open code.
-abbrev pub open_refusals : Setup → ℕ → ℕ → ℕ → List Refusal
+abbrev pub open_refusals : Setup → ℕ → ℕ → ℕ → List RefusalRule
 open_refusals s Q k g = 3 if not (is_spreading_factor Q) ∷ 4 if leb Q k ∷ 5 if bad_gain g ∷ 6 if related_to_open s Q k ∷ []
 
 abbrev pub open_call : Bench → ℕ → ℕ → ℕ → Answer Bench
@@ -92,14 +88,14 @@ plan_left_by (refused_at n place) b = b
 plan_left_by (loads new) b = new
 
 -- Close (Q, k). Refuses 3; 4; 7 code not open.
-abbrev pub close_refusals : Setup → ℕ → ℕ → List Refusal
+abbrev pub close_refusals : Setup → ℕ → ℕ → List RefusalRule
 close_refusals s Q k = 3 if not (is_spreading_factor Q) ∷ 4 if leb Q k ∷ 7 if not (is_open s Q k) ∷ []
 
 abbrev pub close_call : Bench → ℕ → ℕ → Answer Bench
 close_call b Q k = close_refusals (view b.settings) Q k otherwise with_settings b (with_gain b.settings Q k 0)
 
 -- Set gain (Q, k, gain) keeps the bits. Refuses 3; 4; 5; 7.
-abbrev pub set_gain_refusals : Setup → ℕ → ℕ → ℕ → List Refusal
+abbrev pub set_gain_refusals : Setup → ℕ → ℕ → ℕ → List RefusalRule
 set_gain_refusals s Q k g = 3 if not (is_spreading_factor Q) ∷ 4 if leb Q k ∷ 5 if bad_gain g ∷ 7 if not (is_open s Q k) ∷ []
 
 abbrev pub set_gain_call : Bench → ℕ → ℕ → ℕ → Answer Bench
@@ -107,7 +103,7 @@ set_gain_call b Q k g = set_gain_refusals (view b.settings) Q k g otherwise with
 
 -- Load bits (Q, k, one byte a bit). Refuses 3; 4; 7; 8 count not as above; 9 a byte above 1
 -- (`has_byte_above_1`, in `tables`, whose functions test it).
-abbrev pub load_bits_refusals : Setup → ℕ → ℕ → List ℕ → List Refusal
+abbrev pub load_bits_refusals : Setup → ℕ → ℕ → List ℕ → List RefusalRule
 load_bits_refusals s Q k bits =
     3 if not (is_spreading_factor Q) ∷
     4 if leb Q k ∷
@@ -121,7 +117,7 @@ load_bits_call b Q k bits =
 
 -- Set sync (case, frame, half, gP, gS); the group is the cell's. Refuses 13 type not 1; 14 case not 1 or 2; 15 frame not 1 or 2, half above 1,
 -- or half 1 in case 1; 5 either gain.
-abbrev pub set_sync_refusals : Setup → ℕ → ℕ → ℕ → ℕ → ℕ → List Refusal
+abbrev pub set_sync_refusals : Setup → ℕ → ℕ → ℕ → ℕ → ℕ → List RefusalRule
 set_sync_refusals s case frame half g_p g_s =
     13 if not (eqb s.type 1) ∷
     14 if not (one_or_two case) ∷
@@ -138,7 +134,7 @@ abbrev pub clear_sync_call : Bench → Answer Bench
 clear_sync_call b = [] otherwise with_settings b (with_sync b.settings no_sync)
 
 -- Start copies settings to the air, position 0. Refuses 10 slot under way.
-abbrev pub start_refusals : Bool → List Refusal
+abbrev pub start_refusals : Bool → List RefusalRule
 start_refusals slot-under-way = 10 if slot-under-way ∷ []
 
 abbrev pub start_call : Bench → Answer Bench
@@ -154,7 +150,7 @@ pub record AcceptedDraw : Type 0 where
   pub chips : Values
   pub bench : Bench
 
-abbrev pub draw_refusals : Bool → ℕ → ℕ → List Refusal
+abbrev pub draw_refusals : Bool → ℕ → ℕ → List RefusalRule
 draw_refusals slot-under-way n n' = 11 if not slot-under-way ∷ 12 if not (eqb n n') ∷ []
 
 -- m more chips are out; after the last chip there is no slot
@@ -173,18 +169,10 @@ draw_call b n n' =
     draw_refusals (is_running b) n n' otherwise
     (record { count = m; chips = in_buffers m (λ i. slot_chip (view b.sending) (b.position + i)); bench = moved_on b m })
 
--- ---- document 01's number and values for each case of the answers
-abbrev pub answer_of_call : CallAnswer → Answer (Unit {0})
-answer_of_call Accepted = gives tt
-answer_of_call (Refused n) = refused n
-
-abbrev pub answer_of_plan : PlanAnswer → AnswerAt (Unit {0})
-answer_of_plan Loaded = loads tt
-answer_of_plan (RefusedPlan n place) = refused_at n place
-
-abbrev pub answer_of_draw : DrawAnswer → Answer ℕ
-answer_of_draw (Drew m) = gives m
-answer_of_draw (RefusedDraw n) = refused n
+-- ---- document 01's number and place for a refused plan
+abbrev pub answer_of_plan : Result (Unit {0}) PlanRefusal → AnswerAt (Unit {0})
+answer_of_plan (Ok a) = loads a
+answer_of_plan (Err r) = refused_at (number_of r.refusal) r.place
 
 -- ---- the answer of a draw: its refusal, or its count
 abbrev pub draw_outcome : Answer AcceptedDraw → Answer ℕ

@@ -1,4 +1,3 @@
 pub mod Changes
 pub mod BenchCalls
-pub mod CodeRefusals
-pub mod Taken
+pub mod Plans

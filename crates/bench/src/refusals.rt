@@ -1,167 +1,153 @@
-// The refusals of the bench's calls: a call's number from document 01, or 0. Where codes are asked for, the gains are lent and not the settings
-// that hold them, which are 37 times as large: the number is that of any settings with these gains and, for load bits, this type.
-ghost use Rattle.std.specs.Prelude.{not, ◌≡◌, ◌<◌, eqb};
-ghost use Rattle.codes.specs.Refusals.{refusal_number};
+// The refusals of the bench's calls. Where codes are asked for, the gains are lent and not the settings
+// that hold them, which are 37 times as large: the answer is that of any settings with these gains and, for load bits, this type. A call that takes a code
+// gets it back as one.
+ghost use Rattle.std.specs.Prelude.{◌≡◌, ℕ, [], ◌∷◌, not, eqb};
+ghost use Rattle.codes.specs.Answers.{answer_by, answer_of};
+ghost use Rattle.codes.specs.Refusals.{◌if◌, ◌otherwise◌};
 ghost use Rattle.slot.specs.declared.Settings.{Settings};
 ghost use Rattle.slot.specs.Slot.{bit_count};
 ghost use Rattle.slot.specs.View.{view};
 ghost use Rattle.tables.specs.OpenCodes.{clashes};
-ghost use Rattle.bench.specs.BenchCalls.{bad_gain, close_refusals, draw_refusals, load_bits_refusals, open_refusals, set_cell_refusals, set_gain_refusals, set_sync_refusals, some_code};
-ghost use Rattle.bench.specs.CodeRefusals.{code_refusals};
+ghost use Rattle.bench.specs.BenchCalls.{bad_gain, close_refusals, draw_refusals, load_bits_refusals, open_refusals, set_cell_refusals, set_gain_refusals, set_sync_refusals, some_code, start_refusals};
 
-use codes::{CellParameter, burst, tree};
+use codes::refusal::Refusal;
+use codes::tree::Code;
+use codes::{CellParameter, burst};
 use slot::{Settings, parts};
 use tables::bits::has_byte_above_1;
-use tables::gains::{any_clash, any_of_five, is_open};
+use tables::gains::{any_clash, is_open};
 
-pub fn set_cell(cell: CellParameter, kind: u32) -> u32
-    ensures { result ≡ refusal_number (set_cell_refusals cell.0 kind) }
+pub fn set_cell(cell: CellParameter, kind: u32) -> Result<(), Refusal>
+    ensures { answer_of result ≡ set_cell_refusals cell.0 kind otherwise tt }
 {
     if 128 <= cell.0 {
-        return 1;
+        return Err(Refusal::CellOrGroup);
     }
     match kind {
-        1 => 0,
-        2 => 0,
-        3 => 0,
-        _ => 2,
+        1 | 2 | 3 => Ok(()),
+        _ => Err(Refusal::BurstType),
     }
 }
 
-// 3 or 4 where (q, k) is no code, else 0.
-fn code(q: u32, k: u32) -> u32
-    ensures { result ≡ refusal_number (code_refusals q k) }
+// A gain is tested as it comes, before it is narrowed.
+fn check_gain(gain: u32) -> Result<(), Refusal>
+    ensures { answer_of result ≡ (5 if bad_gain gain ∷ []) otherwise tt }
 {
-    if tree::width(q) == 0 {
-        return 3;
+    if gain < 1 || 4095 < gain {
+        return Err(Refusal::Gain);
     }
-    if q <= k {
-        return 4;
-    }
-    0
+    Ok(())
 }
 
-// Whether a gain is not 1 to 4095. It is tested as it comes, before it is narrowed.
-fn is_bad_gain(gain: u32) -> bool
-    ensures { result ≡ bad_gain gain }
+// Whether an open code is related to this one: a test for each factor. The factors are written out, for the check does not find the proof of a chain
+// over them.
+fn is_related_to_open(gains: &[u16; 31], code: Code) -> bool
+    ensures { result ≡ some_code (clashes gains.now code.q code.k) }
 {
-    gain < 1 || 4095 < gain
+    any_clash(gains, code.q, code.k, 1)
+        | any_clash(gains, code.q, code.k, 2)
+        | any_clash(gains, code.q, code.k, 4)
+        | any_clash(gains, code.q, code.k, 8)
+        | any_clash(gains, code.q, code.k, 16)
 }
 
-// Whether an open code is related to (q, k).
-fn is_related_to_open(gains: &[u16; 31], q: u32, k: u32) -> bool
-    ensures { result ≡ some_code (clashes gains.now q k) }
+pub fn open(gains: &[u16; 31], q: u32, k: u32, gain: u32) -> Result<Code, Refusal>
+    ensures { (s : Settings) → s.gains ≡ gains.now → answer_by {B = ℕ × ℕ} (λ c. (c.q, c.k)) result ≡ open_refusals (view s) q k gain otherwise (q, k) }
 {
-    any_of_five(
-        any_clash(gains, q, k, 1),
-        any_clash(gains, q, k, 2),
-        any_clash(gains, q, k, 4),
-        any_clash(gains, q, k, 8),
-        any_clash(gains, q, k, 16),
-    )
+    let code = Code::new(q, k)?;
+    check_gain(gain)?;
+    if is_related_to_open(gains, code) {
+        return Err(Refusal::Related);
+    }
+    Ok(code)
 }
 
-pub fn open(gains: &[u16; 31], q: u32, k: u32, gain: u32) -> u32
-    ensures { (s : Settings) → s.gains ≡ gains.now → result ≡ refusal_number (open_refusals (view s) q k gain) }
+pub fn close(gains: &[u16; 31], q: u32, k: u32) -> Result<Code, Refusal>
+    ensures { (s : Settings) → s.gains ≡ gains.now → answer_by {B = ℕ × ℕ} (λ c. (c.q, c.k)) result ≡ close_refusals (view s) q k otherwise (q, k) }
 {
-    let number = code(q, k);
-    if number != 0 {
-        return number;
+    let code = Code::new(q, k)?;
+    if !is_open(gains, code) {
+        return Err(Refusal::NotOpen);
     }
-    if is_bad_gain(gain) {
-        return 5;
-    }
-    if is_related_to_open(gains, q, k) {
-        return 6;
-    }
-    0
+    Ok(code)
 }
 
-pub fn close(gains: &[u16; 31], q: u32, k: u32) -> u32
-    ensures { (s : Settings) → s.gains ≡ gains.now → result ≡ refusal_number (close_refusals (view s) q k) }
+pub fn set_gain(gains: &[u16; 31], q: u32, k: u32, gain: u32) -> Result<Code, Refusal>
+    ensures { (s : Settings) → s.gains ≡ gains.now → answer_by {B = ℕ × ℕ} (λ c. (c.q, c.k)) result ≡ set_gain_refusals (view s) q k gain otherwise (q, k) }
 {
-    let number = code(q, k);
-    if number != 0 {
-        return number;
+    let code = Code::new(q, k)?;
+    check_gain(gain)?;
+    if !is_open(gains, code) {
+        return Err(Refusal::NotOpen);
     }
-    if !is_open(gains, q, k) {
-        return 7;
-    }
-    0
+    Ok(code)
 }
 
-pub fn set_gain(gains: &[u16; 31], q: u32, k: u32, gain: u32) -> u32
-    ensures { (s : Settings) → s.gains ≡ gains.now → result ≡ refusal_number (set_gain_refusals (view s) q k gain) }
-{
-    let number = code(q, k);
-    if number != 0 {
-        return number;
-    }
-    if is_bad_gain(gain) {
-        return 5;
-    }
-    if !is_open(gains, q, k) {
-        return 7;
-    }
-    0
-}
-
-// How many bits a code of factor q has in a burst type.
-fn bit_count(kind: u32, q: u32) -> usize
-    requires { 0 < q }
-    ensures { result ≡ bit_count kind q }
+// How many bits a code has in a burst type.
+fn bit_count(kind: u32, code: Code) -> usize
+    ensures { result ≡ bit_count kind code.q }
 {
     let p = parts::parts_of(kind);
-    2 * (p.field1 + p.field2) / q as usize
+    2 * (p.field1 + p.field2) / code.q as usize
 }
 
-pub fn load_bits(gains: &[u16; 31], kind: u32, q: u32, k: u32, bits: &[u8]) -> u32
-    ensures { (s : Settings) → s.gains ≡ gains.now → s.kind ≡ kind → result ≡ refusal_number (load_bits_refusals (view s) q k bits.now) }
+pub fn load_bits(gains: &[u16; 31], kind: u32, q: u32, k: u32, bits: &[u8]) -> Result<Code, Refusal>
+    ensures { (s : Settings) → s.gains ≡ gains.now → s.kind ≡ kind → answer_by {B = ℕ × ℕ} (λ c. (c.q, c.k)) result ≡ load_bits_refusals (view s) q k bits.now otherwise (q, k) }
 {
     // 3, 4 and 7, as close has them.
-    let number = close(gains, q, k);
-    if number != 0 {
-        return number;
-    }
-    if bits.len() != bit_count(kind, q) {
-        return 8;
+    let code = close(gains, q, k)?;
+    if bits.len() != bit_count(kind, code) {
+        return Err(Refusal::BitCount);
     }
     if has_byte_above_1(bits) {
-        return 9;
+        return Err(Refusal::BitValue);
     }
-    0
+    Ok(code)
 }
 
-pub fn set_sync(s: Settings, case: u32, frame: u32, half: u32, gp: u32, gs: u32) -> u32
-    ensures { result ≡ refusal_number (set_sync_refusals (view s) case frame half gp gs) }
+#[tactic(auto, unfolding(slot::specs::View::view))]
+pub fn set_sync(
+    s: Settings,
+    case: u32,
+    frame: u32,
+    half: u32,
+    gp: u32,
+    gs: u32,
+) -> Result<(), Refusal>
+    ensures { answer_of result ≡ set_sync_refusals (view s) case frame half gp gs otherwise tt }
 {
     if s.kind != 1 {
-        return 13;
+        return Err(Refusal::BurstTypeNot1);
     }
     if !burst::one_or_two(case) {
-        return 14;
+        return Err(Refusal::SyncCase);
     }
     if burst::is_bad_frame_or_half(case, frame, half) {
-        return 15;
+        return Err(Refusal::FrameOrHalf);
     }
-    if is_bad_gain(gp) {
-        return 5;
-    }
-    if is_bad_gain(gs) {
-        return 5;
-    }
-    0
+    check_gain(gp)?;
+    check_gain(gs)
 }
 
-// For buffers of m and n entries, where a slot is under way while `running` is not 0.
-pub fn draw(running: u8, m: usize, n: usize) -> u32
-    ensures { result ≡ refusal_number (draw_refusals (not (eqb running 0)) m n) }
+// Where a slot is under way while `running` is not 0.
+pub fn start(running: u8) -> Result<(), Refusal>
+    ensures { answer_of result ≡ start_refusals (not (eqb running 0)) otherwise tt }
+{
+    if running != 0 {
+        return Err(Refusal::SlotUnderWay);
+    }
+    Ok(())
+}
+
+// For buffers of m and n entries, none of which is read, where a slot is under way while `running` is not 0.
+pub fn draw(running: u8, m: usize, n: usize) -> Result<(), Refusal>
+    ensures { answer_of result ≡ draw_refusals (not (eqb running 0)) m n otherwise tt }
 {
     if running == 0 {
-        return 11;
+        return Err(Refusal::NoSlot);
     }
     if m != n {
-        return 12;
+        return Err(Refusal::LengthsDiffer);
     }
-    0
+    Ok(())
 }

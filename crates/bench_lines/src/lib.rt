@@ -1,13 +1,14 @@
-// The bench's draws from a line, and what every line leaves; all other calls are handed on.
+// What lines find and leave: each is handed to what answers it, and the bench's draws are answered here.
 #![tactic(auto)]
+
+ghost use Rattle.std.specs.Prelude.{◌≡◌, OnErr};
 
 use bench::Bench;
 use recording_lines::Recording;
 use script::answer::LineAnswer;
-use script::arguments::Numbers;
+use script::commands::Command;
 use script::faults::Fault;
 use script::memory::Memory;
-use script::rows::DRAW;
 
 mod drawing;
 
@@ -18,59 +19,32 @@ pub struct State {
     pub recording: Recording,
 }
 
-// What a line leaves, and what it is answered.
-#[derive(Clone, Copy)]
-pub struct Left {
-    pub state: State,
-    pub answer: LineAnswer,
-}
-
-// The call with this row and these numbers, or what is wrong with them.
-pub fn call(row: usize, numbers: Numbers, line: &[u8], s: State, m: &mut Memory) -> Left {
-    let fault = numbers.fault;
-    let x = numbers.x;
-    match fault {
-        Fault::None => {
-            if row == DRAW {
-                return drawing::draw(s, x[0], x[1], m);
+impl State {
+    // Does what a line asks for.
+    pub fn call<'a>(
+        &mut self,
+        command: Command<'a>,
+        m: &mut Memory,
+    ) -> Result<LineAnswer, Fault<'a>>
+        ensures { OnErr result (self.new ≡ self.old) }
+    {
+        match command {
+            Command::Nothing => Ok(LineAnswer::Nothing),
+            Command::Setting(call) => setting_lines::call(call, &mut self.bench),
+            Command::Draw { n, m: entries } => self.draw(n, entries, m),
+            Command::Recording(call) => self.recording.call(call, m),
+            Command::Code(call) => Ok(code_lines::call(call)?),
+            Command::Whole(code) => Ok(code_lines::whole::code(code, m)?),
+            Command::Brief => {
+                self.recording.brief = true;
+                Ok(LineAnswer::Done)
             }
-            if 0 < row && row < DRAW {
-                return of_settings(row, x, line, numbers.rest, s, m);
+            Command::Full => {
+                self.recording.brief = false;
+                Ok(LineAnswer::Done)
             }
-            beside_the_bench(row, x, line, s, m)
+            Command::Refusals => Ok(LineAnswer::Refusals),
+            Command::Help => Ok(LineAnswer::Help),
         }
-        _ => Left {
-            state: s,
-            answer: LineAnswer::Wrong(fault),
-        },
     }
-}
-
-// A call that changes or tells settings, or starts a slot; what follows its numbers in the line begins at `rest`.
-fn of_settings(
-    row: usize,
-    x: [u32; 5],
-    line: &[u8],
-    rest: usize,
-    s: State,
-    m: &mut Memory,
-) -> Left {
-    let old = s.bench;
-    let left = setting_lines::call(row, x, line, rest, old, m);
-    let bench = left.bench;
-    let answer = left.answer;
-    let recording = s.recording;
-    let state = State { bench, recording };
-    Left { state, answer }
-}
-
-// A call that leaves the bench alone: those of rows past DRAW, and row 0, that of a line with no word.
-fn beside_the_bench(row: usize, x: [u32; 5], line: &[u8], s: State, m: &mut Memory) -> Left {
-    let old = s.recording;
-    let left = recording_lines::call(row, x, line, old, m);
-    let recording = left.recording;
-    let answer = left.answer;
-    let bench = s.bench;
-    let state = State { bench, recording };
-    Left { state, answer }
 }

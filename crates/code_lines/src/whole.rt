@@ -1,44 +1,42 @@
 // Whole codes, chip by chip through the public calls.
-use crate::one;
-use script::answer::LineAnswer;
-use script::memory;
-use script::memory::{LINE, Memory};
-use script::rows::{
-    CODE, ELEMENT, PRIMARY, PRIMARY_CHIP, SCRAMBLING, SCRAMBLING_CHIP, SECONDARY_CHIP,
-};
+ghost use Rattle.std.specs.Prelude.{◌≡◌, OnErr};
 
-// A whole code, into the memory at LINE: chips as long as there are some, at most 256. It is refused as its chip 0 is.
-pub fn code(row: usize, x: [u32; 5], m: &mut Memory) -> LineAnswer {
-    let mut at = LINE;
-    for i in 0..256 {
-        let a = chip(row, x, i);
-        match a {
-            LineAnswer::Sign(sign) => memory::put(m, at, sign, 0),
-            LineAnswer::Chip(re, im) => memory::put(m, at, re, im),
-            _ => {
-                break;
-            }
+use codes::refusal::Refusal;
+use complex::Complex;
+use script::answer::LineAnswer;
+use script::commands::WholeCode;
+use script::memory::{CODE, Memory};
+
+pub fn code(code: WholeCode, m: &mut Memory) -> Result<LineAnswer, Refusal>
+    ensures { OnErr result (m.new ≡ m.old) }
+{
+    match code {
+        WholeCode::Code { q, k } => {
+            let element = |i| codes::element(q, k, i).map(|re| Complex { re, im: 0 });
+            put(m, element).map(LineAnswer::Elements)
         }
-        at = std::num::wrapping_add_usize(at, 1);
+        WholeCode::Scrambling { cell } => {
+            put(m, |i| codes::scrambling_chip(cell, i)).map(LineAnswer::Code)
+        }
+        WholeCode::Primary => put(m, codes::primary_chip).map(LineAnswer::Code),
+        WholeCode::Secondary { number } => {
+            put(m, |i| codes::secondary_chip(number, i)).map(LineAnswer::Code)
+        }
     }
-    let count = std::num::wrapping_sub_usize(at, LINE);
-    if count == 0 {
-        return chip(row, x, 0);
-    }
-    if row == CODE {
-        return LineAnswer::Elements(count);
-    }
-    LineAnswer::Chips(LINE, count)
 }
 
-// Chip i of the code of a line; SECONDARY is the row that is left.
-fn chip(row: usize, x: [u32; 5], i: u32) -> LineAnswer {
-    let first = x[0];
-    let second = x[1];
-    match row {
-        CODE => one(ELEMENT, [first, second, i, 0, 0]),
-        SCRAMBLING => one(SCRAMBLING_CHIP, [first, i, 0, 0, 0]),
-        PRIMARY => one(PRIMARY_CHIP, [i, 0, 0, 0, 0]),
-        _ => one(SECONDARY_CHIP, [first, i, 0, 0, 0]),
+// Puts the chips of a code into the memory, each by its number, and answers how many there are. A code is refused as its chip 0 is.
+fn put<F: Fn(u32) -> Result<Complex, Refusal>>(m: &mut Memory, chip: F) -> Result<usize, Refusal>
+    requires { F.IsAlwaysCallable chip }
+    ensures { OnErr result (m.new ≡ m.old) }
+{
+    // A number: `chip` takes it, and the value is set at it.
+    for i in 0..CODE {
+        match chip(i as u32) {
+            Ok(z) => m.code.set(i, z),
+            Err(refusal) if i == 0 => return Err(refusal),
+            Err(_) => return Ok(i),
+        }
     }
+    Ok(CODE)
 }

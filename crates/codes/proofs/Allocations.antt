@@ -7,8 +7,11 @@ use native.Mathlib.Omega.{arith}
 use mir.Facts.{and_yes}
 use lib.Dec.{T, eqb, leb, lit≤}
 use borrow.Author.Tests.{leb-false}
-use lib.IntN.{ℤ}
-use Rattle.complex.specs.Arithmetic.{real, 𝟎, 𝟏, 𝐣}
+use lib.IntN.{ℤ, pos}
+use Rattle.complex.specs.Arithmetic.{◌+j◌}
+use Rattle.complex.specs.declared.Complex.{Complex}
+use Rattle.complex.specs.Arithmetic.{real, 𝟎, 𝟏, 𝐣, ◌⊗◌, j^}
+use Rattle.complex.proofs.Ring.{𝟏-⊗, ⊗-𝟏}
 use Rattle.complex.specs.Fits.{Within, Both}
 use Rattle.complex.proofs.Sizes.{within_mul}
 use Rattle.complex.proofs.Components.{both_sign}
@@ -44,6 +47,17 @@ unit_small (suc zero) s = record { re = record { size = lit≤ tt }; im = record
 unit_small (suc (suc zero)) s = record { re = record { size = lit≤ tt }; im = record { size = lit≤ tt } }
 unit_small (suc (suc (suc zero))) s = record { re = record { size = lit≤ tt }; im = record { size = lit≤ tt } }
 unit_small (suc (suc (suc (suc n)))) s = none_small
+
+-- a code's unit, turned half around where the sign is negative
+pub sign_times : (t : Bool) (u : Complex) → real (minus_if t) ⊗ u ≡ cond t (j^ 2 ⊗ u) u
+unfolding real 𝟏 𝐣 ◌⊗◌ j^
+sign_times true u = refl
+sign_times false u = 𝟏-⊗ u
+
+-- times 1, written out
+pub times_one : (x : Complex) → x ⊗ (pos 1 +j pos 0) ≡ x
+unfolding 𝟏
+times_one x = ⊗-𝟏 x
 
 known_row : ℕ → ℕ → Bool
 known_row k n =

@@ -1,12 +1,11 @@
 -- What holds of each of the five spreading factors holds of every one. Assumes nothing.
-use mathlib.Core.Path.{◌≡◌, refl, sym, subst}
+use mathlib.Core.Path.{◌≡◌, sym, subst}
 use mathlib.Core.Bool.{true, false≢true}
 use mathlib.Core.List.{List, [], ◌∷◌}
 use Prim.Native.Nat.{ℕ, ◌<◌, ◌≤◌}
 use native.Mathlib.Decide.{ℕ_discrete}
 use native.Mathlib.Omega.{arith}
 use borrow.Author.Tests.{ne_eqb}
-use Rattle.codes.specs.LastArm.{NoneOf}
 use Rattle.codes.specs.Tree.{among, spreading_factors, is_spreading_factor}
 
 -- a fact of each number of a list is one of any number among them
@@ -27,9 +26,3 @@ of_factors P a b c d e = of_all P spreading_factors (a, (b, (c, (d, (e, tt)))))
 
 pub factor_range : (Q : ℕ) → is_spreading_factor Q ≡ true → (0 < Q) × (Q ≤ 16)
 factor_range = of_factors (λ Q. (0 < Q) × (Q ≤ 16)) (omega arith, omega arith) (omega arith, omega arith) (omega arith, omega arith) (omega arith, omega arith) (omega arith, omega arith)
-
--- the last arm of a `match` on a factor, after 1, 2, 4 and 8
-pub last_factor : (Q : ℕ) → is_spreading_factor Q ≡ true → NoneOf (1 ∷ 2 ∷ 4 ∷ 8 ∷ []) Q → Q ≡ 16
-last_factor =
-    of_factors (λ Q. NoneOf (1 ∷ 2 ∷ 4 ∷ 8 ∷ []) Q → Q ≡ 16)
-    (λ n. omega arith) (λ n. omega arith) (λ n. omega arith) (λ n. omega arith) (λ n. refl)

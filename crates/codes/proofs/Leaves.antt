@@ -1,12 +1,13 @@
 -- The tree seen from its leaves: how code (16, k 16/Q) begins is code (Q, k), and two codes are related exactly when their
 -- intervals of leaves overlap. Each is a test over all 31 codes. Assumes nothing.
 use mathlib.Core.Path.{◌≡◌, refl, sym, ap, ◌∙◌, subst}
+use mathlib.Core.Logic.{◌≢◌}
 use mathlib.Core.Bool.{Bool, true, false, ◌&&◌, ◌||◌, cond, and-false}
 use Prim.Native.Nat.{ℕ, suc, ◌+◌, ◌*◌, ◌/◌, ◌%◌, ◌<◌, ◌≤◌}
 use native.Mathlib.Nat.{div-add-mod', lt_of_not-le, mul-le-mul_left}
 use native.Mathlib.Decide.{dec_le}
 use native.Mathlib.Omega.{arith}
-use borrow.Author.Tests.{le-ltb}
+use borrow.Author.Tests.{le-ltb, lt-ltb}
 use lib.Dec.{T, eqb, eqb→eq, leb, leb→le, lit≤, ltb, ltb→lt}
 use lib.IntN.{pos, nat_abs}
 use lib.ListN.{get_or, length, get_or-eq_default}
@@ -66,6 +67,9 @@ past_code Q k n h = go (is_spreading_factor Q) refl (dec_le Q k)
     go true e (yes l) = no_code Q k n (not_below Q k l)
     go true e (no l) = within Q k n h (subst T (sym e) tt) (lt_of_not-le l)
 
+pub no_code_element : (Q k n : ℕ) → Q ≤ k → element Q k n ≡ pos 0
+no_code_element Q k n h = no_code Q k n (not_below Q k h)
+
 -- an element's size
 sizes : ℕ → ℕ → Bool
 sizes Q k = each Q (λ n. leb (nat_abs (element Q k n)) 1)
@@ -113,6 +117,9 @@ some_width Q d = go (is_spreading_factor Q) refl
     go true f = f
     go false f = absurd (d (rw f))
 
+pub no_factor_element : (Q k n : ℕ) → width Q ≡ 0 → element Q k n ≡ pos 0
+no_factor_element Q k n e = no_code Q k n (not_factor Q k (no_width Q e))
+
 -- ---- the leaves below a code
 module _ (Q k : ℕ) (h : k < Q) where
   pub leaves_within : k * width Q + width Q ≤ 16
@@ -150,7 +157,28 @@ leaf_row x h n =
     ap (λ (r : ℕ). sign_bit r n) (eqb→eq _ _ (each_at 16 (λ x. eqb (get_or leaf_rows x 0) (packed (code 16 x))) rows_test x h))
     ∙ leaf_read_back x h n
 
+-- an element, read from the row of the first leaf below its code
+pub element_row : (Q k n : ℕ) → width Q ≢ 0 → k < Q → n < Q → element Q k n ≡ sign_bit (get_or leaf_rows (k * width Q) 0) n
+element_row Q k n d h l =
+    let b : k * width Q + width Q ≤ 16 = leaves_within Q k h in
+    sym (leaf_row (k * width Q) (omega (arith, b, d)) n ∙ begins_with Q k n (subst T (sym (some_width Q d)) tt) h l)
+
+-- for `code_sign`
+pub ruleset elements = (no_factor_element, no_code_element, past_code, element_row)
+
 -- ---- related codes
+pub overlap_if : (Q k Q' k' : ℕ) → k * width Q < k' * width Q' + width Q' → overlap Q k Q' k' ≡ ltb (k' * width Q') (k * width Q + width Q)
+unfolding overlap
+overlap_if Q k Q' k' h = rw (lt-ltb _ _ h)
+
+pub no_first : (Q k Q' k' : ℕ) → Q ≤ k → related Q k Q' k' ≡ false
+unfolding related
+no_first Q k Q' k' h = rw (not_below Q k h)
+
+pub no_second : (Q k Q' k' : ℕ) → Q' ≤ k' → related Q k Q' k' ≡ false
+unfolding related
+no_second Q k Q' k' h = rw (not_below Q' k' h, and-false (is_code Q k))
+
 overlaps : ℕ → ℕ → Bool
 overlaps Q k = each_code (λ Q' k'. agree (related Q k Q' k') (overlap Q k Q' k'))
 
@@ -179,3 +207,6 @@ related_overlap Q k Q' k' h h' = go (is_spreading_factor Q) refl (is_spreading_f
     go false e b' e' = neither_first Q k Q' k' e
     go true e false e' = neither_second Q k Q' k' e'
     go true e true e' = among_codes Q k Q' k' (subst T (sym e) tt) h (subst T (sym e') tt) h'
+
+-- for `is_related`
+pub ruleset relations = (no_first, no_second, related_overlap, overlap_if)

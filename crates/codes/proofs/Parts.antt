@@ -1,26 +1,25 @@
 -- The sync codes are made of parts of 16 chips: within a part of a code only the sequence a or b changes. Assumes nothing.
-use mathlib.Core.Path.{◌≡◌, refl, sym, ap, ap₂, ◌∙◌}
-use mathlib.Core.Bool.{Bool, true, false, ◌&&◌, cond}
+use mathlib.Core.Path.{◌≡◌, refl, sym, ap, ap₂, ◌∙◌, subst}
+use mathlib.Core.Bool.{Bool, true, false}
 use mathlib.Core.List.{List}
 use Prim.Native.Nat.{ℕ, ◌+◌, ◌*◌, ◌/◌, ◌%◌, ◌<◌, ◌≤◌}
-use native.Mathlib.Nat.{add-zero, lt_of_not-le}
+use native.Mathlib.Nat.{add-zero, lt_of_not-le, div-add-mod'}
 use native.Mathlib.Decide.{dec_le}
 use native.Mathlib.Omega.{arith}
 use borrow.Author.Tests.{lt-ltb}
 use lib.Bits.{bit_and, and_block}
 use lib.Count.{ones, ones_in, ones_cat}
-use lib.Dec.{T, eqb, ltb, lit<, lit≤}
+use lib.Dec.{T, lit<}
 use lib.IntN.{ℤ, pos, ◌*ℤ◌, zero-*ℤ}
 use lib.ListN.{get_or-eq_default}
-use Rattle.complex.specs.Arithmetic.{◌+j◌, real, ◌⊗◌}
-use Rattle.complex.specs.Fits.{Within}
+use Rattle.complex.specs.Arithmetic.{◌+j◌, real, ◌⊗◌, 𝟎}
+use Rattle.complex.proofs.Integers.{*ℤ_swap}
 use Rattle.complex.specs.Buffers.{◌at◌}
-use Rattle.codes.specs.Signs.{minus_if}
 use Rattle.codes.specs.PackedSigns.{sign_bit, secondary_row}
 use Rattle.codes.specs.Range.{each}
 use Rattle.codes.specs.SyncCodes.{a, a_signs, b, b_signs, repeated, Cp, z, hadamard, hadamard_part, is_sync_code, sync_codes, C}
 use Rattle.codes.proofs.Tests.{each_at, same, same→eq, T_true, all_below, among_below}
-use Rattle.codes.proofs.Rows.{minus_if_within}
+use Rattle.codes.proofs.Rows.{minus_if_within, sign_products}
 
 -- ---- the Hadamard matrix: n, below 16, changes no bit that it shares with a row 16i
 no_ones : ones 0 ≡ 0
@@ -45,14 +44,6 @@ hadamard_part_is i m h g = simp (lt-ltb i 16 h, lt-ltb m 16 g) (ap (hadamard (16
   where
     e : 16 * m ≡ m * 16 + 0
     e = omega arith
-
-pub hadamard_part_within : (i m : ℕ) → Within 1 (hadamard_part i m)
-unfolding hadamard_part hadamard
-hadamard_part_within i m = go (ltb i 16 && ltb m 16)
-  where
-    go : (t : Bool) → Within 1 (cond t (minus_if (eqb (ones (bit_and (16 * i) (16 * m)) % 2) 1)) (pos 0))
-    go true = minus_if_within (eqb (ones (bit_and (16 * i) (16 * m)) % 2) 1)
-    go false = record { size = lit≤ tt }
 
 -- ---- the codes
 pub sync_code_below : (i : ℕ) → T (is_sync_code i) → i < 16
@@ -103,3 +94,28 @@ unfolding kept
 secondary_signs i m h g =
     same→eq _ _ (each_at 16 (kept i) (each_at 16 (λ i. each 16 (kept i)) kept_test i h) m g)
     ∙ ap (λ (s : ℤ). b_signs at m *ℤ s) (sym (hadamard_part_is i m h g))
+
+past_row : (r i : ℕ) → 16 ≤ i → sign_bit r i ≡ pos 0
+unfolding sign_bit
+past_row r i h = rw (lt-ltb 15 i h)
+
+pub no_C : (i n : ℕ) → is_sync_code i ≡ false → C i n ≡ pos 0 +j pos 0
+unfolding C 𝟎
+no_C i n e = rw e
+
+-- chip n of secondary code i, by the sign of its part
+pub C_signs : (i n : ℕ) → is_sync_code i ≡ true → C i n ≡ real (sign_bit (secondary_row i) (n / 16) *ℤ b at (n % 16)) ⊗ (pos 1 +j pos 1)
+C_signs i n e =
+    let t : T (is_sync_code i) = subst T (sym e) tt in
+    ap (C i) (sym (div-add-mod' n 16)) ∙ C_parts (n / 16) (n % 16) (omega arith) i t
+    ∙ ap (λ (x : ℤ). real x ⊗ (pos 1 +j pos 1)) (regroup (sync_code_below i t) (n / 16) (b at (n % 16)))
+  where
+    regroup : i < 16 → (m : ℕ) (x : ℤ) → (b_signs at m *ℤ x) *ℤ hadamard_part i m ≡ sign_bit (secondary_row i) m *ℤ x
+    regroup h m x = go (dec_le 16 m)
+      where
+        go : Dec (16 ≤ m) → (b_signs at m *ℤ x) *ℤ hadamard_part i m ≡ sign_bit (secondary_row i) m *ℤ x
+        go (yes l) = rw (past_signs l, past_row (secondary_row i) m l) (simp zero-*ℤ)
+        go (no l) = rw (secondary_signs i m h (lt_of_not-le l)) (*ℤ_swap (b_signs at m) x (hadamard_part i m))
+
+-- for `secondary`
+pub ruleset secondaries = (sign_products, C_signs, no_C)

@@ -6,19 +6,19 @@ use mathlib.Core.List.{List, [], ◌∷◌, ◌++◌}
 use lib.Dec.{T, eqb}
 use borrow.Author.Tests.{eq-eqb}
 use mir.Facts.{and_yes}
-use Rattle.codes.specs.Refusals.{Answer, refused, gives, Refusal, ◌otherwise◌, refusal_number, outcome, after, refusal_of}
+use Rattle.codes.specs.Refusals.{Answer, refused, gives, RefusalRule, ◌otherwise◌, refusal_number, outcome, after, refusal_of}
 
 -- no refusal of the list has number 0
-unfoldable pub numbered : List Refusal → Bool
+unfoldable pub numbered : List RefusalRule → Bool
 numbered [] = true
 numbered (r ∷ rs) = not (eqb r.number 0) && numbered rs
 
 -- no condition of the list holds
-abbrev pub Passed : List Refusal → Type 0
+abbrev pub Passed : List RefusalRule → Type 0
 Passed [] = Unit {0}
 Passed (r ∷ rs) = (r.condition ≡ false) × Passed rs
 
-pub passed : (rs : List Refusal) → T (numbered rs) → refusal_number rs ≡ 0 → Passed rs
+pub passed : (rs : List RefusalRule) → T (numbered rs) → refusal_number rs ≡ 0 → Passed rs
 unfolding numbered
 passed [] t e = tt
 passed (r ∷ rs) t e = go r.condition refl e (and_yes (not (eqb r.number 0)) (numbered rs) t) (passed rs)
@@ -29,14 +29,14 @@ passed (r ∷ rs) t e = go r.condition refl e (and_yes (not (eqb r.number 0)) (n
     go false q z u f = (q, f u.1 z)
 
 module _ {A : Type 0} (a : A) where
-  passed_gives : (rs : List Refusal) → Passed rs → rs otherwise a ≡ gives a
+  passed_gives : (rs : List RefusalRule) → Passed rs → rs otherwise a ≡ gives a
   passed_gives [] p = refl
   passed_gives (r ∷ rs) p = rw p.0 (passed_gives rs p.1)
 
-  pub accepted : (rs : List Refusal) → T (numbered rs) → refusal_number rs ≡ 0 → rs otherwise a ≡ gives a
+  pub accepted : (rs : List RefusalRule) → T (numbered rs) → refusal_number rs ≡ 0 → rs otherwise a ≡ gives a
   accepted rs t e = passed_gives rs (passed rs t e)
 
-  pub not_accepted : (rs : List Refusal) → refusal_number rs ≢ 0 → rs otherwise a ≡ refused (refusal_number rs)
+  pub not_accepted : (rs : List RefusalRule) → refusal_number rs ≢ 0 → rs otherwise a ≡ refused (refusal_number rs)
   not_accepted [] d = absurd (d refl)
   not_accepted (r ∷ rs) d = go r.condition d (not_accepted rs)
     where
@@ -45,8 +45,26 @@ module _ {A : Type 0} (a : A) where
       go true z f = refl
       go false z f = f z
 
+-- what an accepted answer says of the tests
+module _ {A : Type 0} (a b : A) where
+  pub gives_passed : (rs : List RefusalRule) → gives b ≡ rs otherwise a → Passed rs
+  gives_passed [] e = tt
+  gives_passed (r ∷ rs) e = go r.condition refl e (gives_passed rs)
+    where
+      go : (t : Bool) → r.condition ≡ t → gives b ≡ cond t (refused r.number) (rs otherwise a) → (gives b ≡ rs otherwise a → Passed rs) → (r.condition ≡ false) × Passed rs
+      go true q z f = absurd (cc)
+      go false q z f = (q, f z)
+
+  pub gives_value : (rs : List RefusalRule) → gives b ≡ rs otherwise a → b ≡ a
+  gives_value [] e = cc
+  gives_value (r ∷ rs) e = go r.condition e (gives_value rs)
+    where
+      go : (t : Bool) → gives b ≡ cond t (refused r.number) (rs otherwise a) → (gives b ≡ rs otherwise a → b ≡ a) → b ≡ a
+      go true z f = absurd (cc)
+      go false z f = f z
+
 -- ---- a list in two parts
-pub refused_early : (rs qs : List Refusal) → refusal_number rs ≢ 0 → refusal_number (rs ++ qs) ≡ refusal_number rs
+pub refused_early : (rs qs : List RefusalRule) → refusal_number rs ≢ 0 → refusal_number (rs ++ qs) ≡ refusal_number rs
 refused_early [] qs d = absurd (d refl)
 refused_early (r ∷ rs) qs d = go r.condition d (refused_early rs qs)
   where
@@ -55,7 +73,7 @@ refused_early (r ∷ rs) qs d = go r.condition d (refused_early rs qs)
     go true z f = refl
     go false z f = f z
 
-pub passed_early : (rs qs : List Refusal) → Passed rs → refusal_number (rs ++ qs) ≡ refusal_number qs
+pub passed_early : (rs qs : List RefusalRule) → Passed rs → refusal_number (rs ++ qs) ≡ refusal_number qs
 passed_early [] qs p = refl
 passed_early (r ∷ rs) qs p = rw p.0 (passed_early rs qs p.1)
 
@@ -71,10 +89,10 @@ refusal_of_outcome (gives x) = refl
 abbrev pub ZeroAccepts : {A : Type 0} → Answer A → Type 0
 ZeroAccepts a = refusal_of a ≡ 0 → outcome a ≡ gives tt
 
-pub 0_accepts : {A : Type 0} (a : A) (rs : List Refusal) → T (numbered rs) → ZeroAccepts (rs otherwise a)
+pub 0_accepts : {A : Type 0} (a : A) (rs : List RefusalRule) → T (numbered rs) → ZeroAccepts (rs otherwise a)
 0_accepts a rs t e = ap outcome (accepted a rs t (sym (as_number rs) ∙ e))
   where
-    as_number : (qs : List Refusal) → refusal_of (qs otherwise a) ≡ refusal_number qs
+    as_number : (qs : List RefusalRule) → refusal_of (qs otherwise a) ≡ refusal_number qs
     as_number [] = refl
     as_number (q ∷ qs) = go q.condition (as_number qs)
       where

@@ -1,7 +1,7 @@
 -- Rows of 16 signs as the code holds them. Assumes nothing.
-use mathlib.Core.Path.{◌≡◌, refl, sym, subst}
+use mathlib.Core.Path.{◌≡◌, refl, sym, subst, ap, ◌∙◌}
 use mathlib.Core.Bool.{Bool, true, false, cond}
-use mathlib.Core.List.{List}
+use mathlib.Core.List.{List, []}
 use Prim.Native.Nat.{ℕ, ◌+◌, ◌-◌, ◌/◌, ◌%◌, ◌^◌, ◌≤◌, ◌<◌}
 use borrow.Author.Tests.{lt-ltb, eqb-true}
 use native.Mathlib.Decide.{dec_le}
@@ -9,7 +9,13 @@ use native.Mathlib.Nat.{lt_of_not-le}
 use native.Mathlib.Numerals.{add-one}
 use native.Mathlib.Omega.{arith}
 use lib.Dec.{T, eqb, ltb, lit≤}
-use lib.IntN.{ℤ, pos}
+use lib.IntN.{ℤ, pos, ◌*ℤ◌}
+use mir.Syntax.{w32}
+use mir.Val.{SFits, to_z, of_z}
+use Rattle.complex.specs.Arithmetic.{real, j^}
+use Rattle.complex.proofs.Machine.{mul_gives}
+use Rattle.complex.proofs.Sizes.{within_mul, fits_within}
+use Rattle.complex.proofs.Rotations.{j^-%}
 use lib.ListN.{length, get_or-eq_default}
 use Rattle.complex.specs.Fits.{Within, Both}
 use Rattle.complex.proofs.Components.{both_j^, real_both}
@@ -75,9 +81,18 @@ pub v_at : (p i : ℕ) → v p (i + 1) ≡ annex_row p at i
 unfolding v ◌at◌
 v_at p i = rw (add-one i)
 
+pub no_row : (p : ℕ) → 128 ≤ p → annex_row p ≡ []
+no_row p h = rw (get_or-eq_default annex_A "" {n = p} h)
+
 pub no_row_at : (p i : ℕ) → 128 ≤ p → annex_row p at i ≡ pos 0
 unfolding ◌at◌
 no_row_at p i h = rw (get_or-eq_default annex_A "" {n = p} h)
+
+pub no_v : (p i : ℕ) → 128 ≤ p → v p (i + 1) ≡ pos 0
+no_v p i h = v_at p i ∙ no_row_at p i h
+
+pub v_read_back : (p i : ℕ) → p < 128 → v p (i + 1) ≡ sign_bit (packed (annex_row p)) i
+v_read_back p i h = v_at p i ∙ sym (annex_read_back p h i)
 
 pub v_within : (p i : ℕ) → Within 1 (v p (i + 1))
 v_within p i = subst (Within 1) (sym (v_at p i)) (go (dec_le 128 p))
@@ -89,6 +104,18 @@ v_within p i = subst (Within 1) (sym (v_at p i)) (go (dec_le 128 p))
 pub scrambling_both : (p i : ℕ) → Both 1 (scrambling_element p (i + 1))
 unfolding scrambling_element
 scrambling_both p i = both_j^ (real_both (v_within p i)) (i + 1)
+
+-- for `sign` of a scrambling code
+pub ruleset scrambling_signs = (no_v, v_read_back)
+
+pub v_small : (p i : ℕ) → Both 1 (real (v p (i + 1)))
+v_small p i = real_both (v_within p i)
+
+-- the powers of j come again after four
+pub power_cycle : (i : ℕ) → j^ (i + 1) ≡ j^ (i % 4 + 1)
+power_cycle i =
+    let e : (i % 4 + 1) % 4 ≡ (i + 1) % 4 = omega arith in
+    sym (j^-% (i + 1)) ∙ ap j^ (sym e) ∙ j^-% (i % 4 + 1)
 
 -- the codes of Q 16
 leaf_test : T (each 16 (λ x. reads_back (code 16 x)))
@@ -114,3 +141,30 @@ b_test = tt
 pub b_signs_test : T (reads_back b_signs)
 unfolding reads_back each same sign_bit ◌at◌
 b_signs_test = tt
+
+pub a_read_back : (i : ℕ) → sign_bit (packed a) i ≡ a at i
+a_read_back = read_back a a_test
+
+pub a_signs_read_back : (i : ℕ) → sign_bit (packed a_signs) i ≡ a_signs at i
+a_signs_read_back = read_back a_signs a_signs_test
+
+pub b_read_back : (i : ℕ) → sign_bit (packed b) i ≡ b at i
+b_read_back = read_back b b_test
+
+pub a_within : (i : ℕ) → Within 1 (a at i)
+a_within = row_within a a_test
+
+pub a_signs_within : (i : ℕ) → Within 1 (a_signs at i)
+a_signs_within = row_within a_signs a_signs_test
+
+pub b_within : (i : ℕ) → Within 1 (b at i)
+b_within = row_within b b_test
+
+pub unit_product : {x y : ℤ} → Within 1 x → Within 1 y → SFits w32 (x *ℤ y)
+unit_product h g = fits_within (within_mul h g) tt
+
+pub product_held : (x y : ℤ) → Within 1 x → Within 1 y → to_z w32 (of_z w32 (to_z w32 (of_z w32 x) *ℤ to_z w32 (of_z w32 y))) ≡ x *ℤ y
+product_held x y h g = mul_gives (fits_within h tt) (fits_within g tt) (unit_product h g)
+
+-- for a chip that is the product of two signs
+pub ruleset sign_products = (a_within, a_signs_within, b_within, sign_within, unit_product, product_held)

@@ -1,17 +1,16 @@
 -- A rule over finitely many cases is one test that antt computes, and one law that turns it into the rule at each case. Assumes nothing.
-use mathlib.Core.Path.{◌≡◌, refl, sym, ap, subst, ◌∙◌}
+use mathlib.Core.Path.{◌≡◌, refl, sym, ap, subst}
 use mathlib.Core.Bool.{Bool, true, false, ◌&&◌, ◌||◌, cond, not, true≢false}
 use mathlib.Core.List.{List, [], ◌∷◌}
-use Prim.Native.Nat.{ℕ, zero, suc, ◌+◌, ◌≤◌, ◌<◌}
+use Prim.Native.Nat.{ℕ, zero, suc, ◌<◌}
 use native.Mathlib.Nat.{not-suc-le-zero}
 use native.Mathlib.Decide.{ℕ_discrete}
 use native.Mathlib.Omega.{arith}
-use borrow.Author.Tests.{eq-eqb, ne_eqb}
+use borrow.Author.Tests.{ne_eqb}
 use lib.Dec.{T, eqb, eqb→eq, ltb, ltb→lt}
 use mir.Facts.{and_yes}
 use lib.IntN.{ℤ, pos, negsuc}
-use Rattle.codes.specs.Range.{each, any, numbers_from}
-use Rattle.codes.specs.LastArm.{NoneOfAfter, NoneOf}
+use Rattle.codes.specs.Range.{each, any}
 use Rattle.codes.specs.Tree.{among}
 
 both_left : (s t : Bool) → T (cond s t false) → T s
@@ -68,28 +67,6 @@ same→eq (pos m) (pos n) t = ap pos (eqb→eq m n t)
 same→eq (negsuc m) (negsuc n) t = ap negsuc (eqb→eq m n t)
 same→eq (pos m) (negsuc n) t = absurd t
 same→eq (negsuc m) (pos n) t = absurd t
-
--- ---- past the last arm of a `match`
-none_of_after : (A : Type 0) (ks : List ℕ) (x : ℕ) → NoneOfAfter A ks x → A × (among x ks ≡ false)
-none_of_after A [] x h = (h, refl)
-none_of_after A (k ∷ ks) x h =
-    let r = none_of_after (A × (x ≡ k → ⊥)) ks x h in
-    (r.0.0, rw (ne_eqb x k r.0.1) r.1)
-
-pub none_of : (ks : List ℕ) (x : ℕ) → NoneOf ks x → among x ks ≡ false
-none_of ks x h = (none_of_after (Unit {0}) ks x h).1
-
-past_from : (k n x : ℕ) → k ≤ x → among x (numbers_from k n) ≡ false → k + n ≤ x
-past_from k zero x h e = omega arith
-past_from k (suc n) x h e = go (ℕ_discrete x k) (past_from (suc k) n x)
-  where
-    go : Dec (x ≡ k) → (suc k ≤ x → among x (numbers_from (suc k) n) ≡ false → suc k + n ≤ x) → k + suc n ≤ x
-    go (yes p) r = let z : true ≡ false = sym (rw (eq-eqb x k p)) ∙ e in absurd (subst T z tt)
-    go (no p) r = let g : suc k + n ≤ x = r (omega arith) (rw (ne_eqb x k p) at e) in omega arith
-
--- the last arm after the arms 0, 1, .., n - 1
-pub none_below : (n x : ℕ) → NoneOf (numbers_from 0 n) x → n ≤ x
-none_below n x h = let r : 0 + n ≤ x = past_from 0 n x (omega arith) (none_of (numbers_from 0 n) x h) in omega arith
 
 -- ---- a number that is one of a list's
 pub T_true : (t : Bool) → T t → t ≡ true

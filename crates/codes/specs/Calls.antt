@@ -3,22 +3,10 @@
 -- scrambling chip 0 is the document's element 1.
 use Rattle.std.specs.Prelude.{ℤ, ℕ, ◌+◌, [], ◌∷◌, Bool, not, leb}
 use Rattle.complex.specs.declared.Complex.{Complex}
-use Rattle.codes.specs.declared.ElementAnswer.{ElementAnswer}
-use Rattle.codes.specs.declared.ElementAnswer.TheVariants.{Element, Refused as RefusedElement}
-use Rattle.codes.specs.declared.RelatedAnswer.{RelatedAnswer}
-use Rattle.codes.specs.declared.RelatedAnswer.TheVariants.{Related, Refused as RefusedRelated}
-use Rattle.codes.specs.declared.GroupAnswer.{GroupAnswer}
-use Rattle.codes.specs.declared.GroupAnswer.TheVariants.{Group, Refused as RefusedGroup}
-use Rattle.codes.specs.declared.ChipAnswer.{ChipAnswer}
-use Rattle.codes.specs.declared.ChipAnswer.TheVariants.{Chip, Refused as RefusedChip}
-use Rattle.codes.specs.Refusals.{Answer, refused, gives, ◌if◌, ◌otherwise◌}
+use Rattle.codes.specs.Refusals.{Answer, ◌if◌, ◌otherwise◌}
 use Rattle.codes.specs.Tree.{is_spreading_factor, element, related}
 use Rattle.codes.specs.Scrambling.{scrambling_element, code_group}
 use Rattle.codes.specs.declared.Allocated.{Allocated}
-use Rattle.codes.specs.declared.AllocationAnswer.{AllocationAnswer}
-use Rattle.codes.specs.declared.AllocationAnswer.TheVariants.{Codes, Refused as RefusedAllocation}
-use Rattle.codes.specs.declared.StartAnswer.{StartAnswer}
-use Rattle.codes.specs.declared.StartAnswer.TheVariants.{Start, Refused as RefusedStart}
 use Rattle.codes.specs.SyncCodes.{Cp, C, is_sync_code}
 use Rattle.codes.specs.Allocation.{allocation, one_or_two, bad_frame_or_half}
 use Rattle.codes.specs.Burst.{burst_start}
@@ -57,28 +45,3 @@ allocation_call case g frame half =
 -- burst start
 abbrev pub burst_start_call : ℕ → Answer ℕ
 burst_start_call g = 1 if leb 32 g ∷ [] otherwise burst_start g
-
--- ---- document 01's number and values for each case of the calls' answers
-abbrev pub answer_of_element : ElementAnswer → Answer ℤ
-answer_of_element (Element s) = gives s
-answer_of_element (RefusedElement n) = refused n
-
-abbrev pub answer_of_related : RelatedAnswer → Answer Bool
-answer_of_related (Related t) = gives t
-answer_of_related (RefusedRelated n) = refused n
-
-abbrev pub answer_of_group : GroupAnswer → Answer ℕ
-answer_of_group (Group g) = gives g.0
-answer_of_group (RefusedGroup n) = refused n
-
-abbrev pub answer_of_chip : ChipAnswer → Answer Complex
-answer_of_chip (Chip x) = gives x
-answer_of_chip (RefusedChip n) = refused n
-
-abbrev pub answer_of_allocation : AllocationAnswer → Answer Allocated
-answer_of_allocation (Codes s) = gives s
-answer_of_allocation (RefusedAllocation n) = refused n
-
-abbrev pub answer_of_burst_start : StartAnswer → Answer ℕ
-answer_of_burst_start (Start n) = gives n
-answer_of_burst_start (RefusedStart n) = refused n

@@ -7,6 +7,7 @@ pub mod SyncCodes
 pub mod Allocation
 pub mod Burst
 pub mod Refusals
+pub mod Answers
+pub mod CodeRefusals
 pub mod Calls
 pub mod PackedSigns
-pub mod LastArm

@@ -6,18 +6,18 @@ pub data Answer (A : Type 0) : Type 0 where
   refused : ℕ → Answer A
   gives : A → Answer A
 
--- a refusal's number and the condition under which it is given
-pub record Refusal : Type 0 where
+-- a call's rule of refusal: the number, and the condition under which it is given
+pub record RefusalRule : Type 0 where
   pub number : ℕ
   pub condition : Bool
 
 infix 70 ◌if◌
-abbrev pub ◌if◌ : ℕ → Bool → Refusal
+abbrev pub ◌if◌ : ℕ → Bool → RefusalRule
 n if t = record { number = n; condition = t }
 
 -- "a refusal number is given if its condition holds and no earlier one in the call's list does, else never"
 infix 20 ◌otherwise◌
-abbrev pub ◌otherwise◌ : {A : Type 0} → List Refusal → A → Answer A
+abbrev pub ◌otherwise◌ : {A : Type 0} → List RefusalRule → A → Answer A
 [] otherwise a = gives a
 (r ∷ rs) otherwise a = cond r.condition (refused r.number) (rs otherwise a)
 
@@ -39,6 +39,6 @@ refusal_of (gives a) = 0
 
 -- ---- what only the functions need
 -- the number of the first refusal whose condition holds; 0, which is no refusal's, where none does
-abbrev pub refusal_number : List Refusal → ℕ
+abbrev pub refusal_number : List RefusalRule → ℕ
 refusal_number [] = 0
 refusal_number (r ∷ rs) = cond r.condition r.number (refusal_number rs)

@@ -1,36 +1,25 @@
 // Scrambling codes and code groups.
 ghost use Rattle.std.specs.Prelude.{◌≡◌, ◌+◌};
 ghost use Rattle.complex.specs.Fits.{Within};
-ghost use Rattle.codes.specs.Range.{numbers_from};
 ghost use Rattle.codes.specs.PackedSigns.{packed, signed_by_j};
-ghost use Rattle.codes.specs.LastArm.{NoneOf};
 ghost use Rattle.codes.specs.Scrambling.{code_group, annex_row, scrambling_element, v};
 
 use crate::signs::sign_at;
 use crate::{CellParameter, CodeGroup};
 use complex::Complex;
 
-// The code group of a cell parameter, for any number.
+// The code group of a cell parameter, for any number. A function and no `From`: docs/DECISIONS.md names it.
 pub fn group_of(p: CellParameter) -> CodeGroup
     ensures { result.0 ≡ code_group p.0 }
 {
     CodeGroup(p.0 / 4)
 }
 
-// What the last arm of `annex_row` gives: Annex A has 128 rows.
-fn no_row(p: u32) -> u32
-    requires { NoneOf (numbers_from 0 128) p }
-    ensures { result ≡ packed (annex_row p) }
-{
-    0
-}
-
 // Row p of Annex A, for cell parameter p; 0 above 127.
 pub fn annex_row(cell: CellParameter) -> u32
     ensures { result ≡ packed (annex_row cell.0) }
 {
-    let p = cell.0;
-    match p {
+    match cell.0 {
         0 => 0b0100010010110100,
         1 => 0b1111101010011100,
         2 => 0b1011101101111000,
@@ -159,11 +148,12 @@ pub fn annex_row(cell: CellParameter) -> u32
         125 => 0b1001101011111100,
         126 => 0b1111010101101100,
         127 => 0b1010000010011100,
-        _ => no_row(p),
+        _ => 0,
     }
 }
 
 // Element i, from 0, of the binary scrambling code; 0 outside its range.
+#[tactic(auto, using(crate::proofs::Rows::scrambling_signs))]
 pub fn sign(p: CellParameter, i: u32) -> i32
     ensures { result ≡ v p.0 (i + 1) }
 {
@@ -174,6 +164,7 @@ pub fn sign(p: CellParameter, i: u32) -> i32
 }
 
 // s, with the sign of the conjugate of j^(i+1), which is -j, -1, j, 1, again and again.
+#[tactic(auto, unfolding(crate::specs::PackedSigns::signed_by_j))]
 pub fn signed_by_j(s: i32, i: u32) -> i32
     requires { Within 1 s }
     ensures { result ≡ signed_by_j s i }
@@ -182,9 +173,9 @@ pub fn signed_by_j(s: i32, i: u32) -> i32
 }
 
 // Element i, from 0, of the complex scrambling code; 0 outside its range.
+#[tactic(auto, unfolding(crate::specs::Scrambling::scrambling_element), using(crate::proofs::Rows::v_small, crate::proofs::Rows::power_cycle))]
 pub fn element(p: CellParameter, i: u32) -> Complex
     ensures { result ≡ scrambling_element p.0 (i + 1) }
 {
-    let s = sign(p, i);
-    Complex { re: s, im: 0 }.rotated(i % 4 + 1)
+    Complex::from(sign(p, i)).rotated(i % 4 + 1)
 }

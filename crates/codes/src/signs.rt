@@ -3,6 +3,7 @@ ghost use Rattle.std.specs.Prelude.{◌≡◌};
 ghost use Rattle.codes.specs.PackedSigns.{sign_bit};
 
 // Element i, from 0, of a row; 0 past its end.
+#[tactic(auto, unfolding(crate::specs::PackedSigns::sign_bit))]
 pub fn sign_at(row: u32, i: u32) -> i32
     ensures { result ≡ sign_bit row i }
 {

@@ -1,10 +1,8 @@
 // The primary and the secondary sync codes, whole and by their parts of 16 chips.
-ghost use Rattle.std.specs.Prelude.{◌≡◌};
-ghost use Rattle.codes.specs.Range.{numbers_from};
+ghost use Rattle.std.specs.Prelude.{◌≡◌, true};
 ghost use Rattle.codes.specs.PackedSigns.{packed, secondary_row};
-ghost use Rattle.codes.specs.LastArm.{NoneOf};
 ghost use Rattle.complex.specs.Buffers.{◌at◌};
-ghost use Rattle.codes.specs.SyncCodes.{a, a_signs, b, b_signs, hadamard_part, is_sync_code, Cp, C};
+ghost use Rattle.codes.specs.SyncCodes.{a, a_signs, b, is_sync_code, Cp, C};
 
 use crate::signs::sign_at;
 use complex::Complex;
@@ -30,15 +28,7 @@ fn b_row() -> u32
     0b1111110001010110
 }
 
-// What the last arm of `secondary_row` gives.
-fn no_secondary_row(i: u32) -> u32
-    requires { NoneOf (numbers_from 0 16) i }
-    ensures { result ≡ secondary_row i }
-{
-    0
-}
-
-// The signs of secondary code i's sixteen parts as a row: those of z times those of the Hadamard matrix.
+// The signs of secondary code i's sixteen parts as a row: those of z times those of the Hadamard matrix. Row 0 for any other number (docs/DECISIONS.md).
 pub fn secondary_row(i: u32) -> u32
     ensures { result ≡ secondary_row i }
 {
@@ -59,11 +49,14 @@ pub fn secondary_row(i: u32) -> u32
         13 => 0b1011011000000101,
         14 => 0b1101000001100011,
         15 => 0b1000010100110110,
-        _ => no_secondary_row(i),
+        _ => 0,
     }
 }
 
+// A function for each row, as docs/DECISIONS.md names them: `a_sign`, `a_repeat` and `b_sign` differ in the row alone.
+
 // Element i of the sequence a; 0 past its end.
+#[tactic(auto, using(crate::proofs::Rows::a_read_back))]
 pub fn a_sign(i: u32) -> i32
     ensures { result ≡ a at i }
 {
@@ -71,6 +64,7 @@ pub fn a_sign(i: u32) -> i32
 }
 
 // The sign of part m of the primary code, which is this sign times a; 0 past the code's end.
+#[tactic(auto, using(crate::proofs::Rows::a_signs_read_back))]
 pub fn a_repeat(m: u32) -> i32
     ensures { result ≡ a_signs at m }
 {
@@ -78,70 +72,46 @@ pub fn a_repeat(m: u32) -> i32
 }
 
 // Element i of the sequence b; 0 past its end.
+#[tactic(auto, using(crate::proofs::Rows::b_read_back))]
 pub fn b_sign(i: u32) -> i32
     ensures { result ≡ b at i }
 {
     sign_at(b_row(), i)
 }
 
-// The sign of part m of the sequence z, which is this sign times b; 0 past the sequence's end.
-fn b_repeat(m: u32) -> i32
-    ensures { result ≡ b_signs at m }
-{
-    sign_at(0b1110110010100000, m)
-}
-
-// The sign of row 16i of the Hadamard matrix over its part m; 0 outside 16 by 16.
-fn hadamard_sign(i: u32, m: u32) -> i32
-    ensures { result ≡ hadamard_part i m }
-{
-    if 16 <= i {
-        return 0;
-    }
-    if 16 <= m {
-        return 0;
-    }
-    if u32::count_ones(i & m) % 2 == 1 {
-        -1
-    } else {
-        1
-    }
-}
-
 // Whether a secondary code has number i.
+#[tactic(auto, unfolding(crate::specs::SyncCodes::is_sync_code))]
 pub fn is_sync_code(i: u32) -> bool
     ensures { result ≡ is_sync_code i }
 {
-    match i {
-        0 => true,
-        1 => true,
-        3 => true,
-        4 => true,
-        5 => true,
-        6 => true,
-        8 => true,
-        10 => true,
-        12 => true,
-        13 => true,
-        14 => true,
-        15 => true,
-        _ => false,
-    }
+    matches!(i, 0 | 1 | 3 | 4 | 5 | 6 | 8 | 10 | 12 | 13 | 14 | 15)
 }
 
 // Chip n of the primary code; 0 past its end.
+#[tactic(auto, unfolding(crate::specs::SyncCodes::Cp, crate::specs::SyncCodes::repeated), using(crate::proofs::Rows::sign_products))]
 pub fn primary(n: u32) -> Complex
     ensures { result ≡ Cp n }
 {
     complex::times_one_plus_j(a_repeat(n / 16) * a_sign(n % 16))
 }
 
+// Chip n of secondary code i, which is listed; 0 past the code's end. For the call, which has looked: a second test would cost it a quarter of its time.
+#[tactic(auto, using(crate::proofs::Parts::secondaries))]
+pub(crate) fn listed_chip(i: u32, n: u32) -> Complex
+    requires { is_sync_code i ≡ true }
+    ensures { result ≡ C i n }
+{
+    complex::times_one_plus_j(sign_at(secondary_row(i), n / 16) * b_sign(n % 16))
+}
+
 // Chip n of secondary code i; 0 for a number that is not listed and past the code's end.
+#[tactic(auto, using(crate::proofs::Parts::secondaries))]
 pub fn secondary(i: u32, n: u32) -> Complex
     ensures { result ≡ C i n }
 {
-    if !is_sync_code(i) {
-        return Complex { re: 0, im: 0 };
+    if is_sync_code(i) {
+        listed_chip(i, n)
+    } else {
+        Complex::ZERO
     }
-    complex::times_one_plus_j(b_repeat(n / 16) * b_sign(n % 16) * hadamard_sign(i, n / 16))
 }

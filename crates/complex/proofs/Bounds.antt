@@ -1,12 +1,12 @@
 -- Sizes of the entries of lists. Assumes nothing.
 use mathlib.Core.Path.{sym, subst}
-use mathlib.Core.List.{List, [], ◌∷◌}
-use Prim.Native.Nat.{ℕ, zero, suc, ◌≤◌}
+use mathlib.Core.List.{List}
+use Prim.Native.Nat.{ℕ, ◌≤◌}
 use native.Mathlib.Decide.{dec_le}
 use native.Mathlib.Nat.{lt_of_not-le}
 use native.Mathlib.Omega.{arith}
 use lib.IntN.{ℤ, pos}
-use lib.ListN.{get_or, set, replicate, get_or-eq_default}
+use lib.ListN.{get_or, replicate, get_or-eq_default}
 use Rattle.complex.specs.Buffers.{listed, value}
 use Rattle.complex.specs.Fits.{Within, Both, Bound}
 use Rattle.complex.proofs.Sizes.{within_more}
@@ -28,17 +28,6 @@ bound_listed k n f h = record { at = λ i. go i (dec_le n i) }
 pub bound_zeros : (k : ℕ) → Bound k (replicate 16 (pos 0))
 unfolding listed
 bound_zeros k = bound_listed k 16 (λ i. pos 0) (λ i. record { size = omega arith })
-
--- a loop writes one entry
-pub bound_set : {k : ℕ} {l : List ℤ} → Bound k l → (i : ℕ) {v : ℤ} → Within k v → Bound k (set l i v)
-bound_set {k} {l} h i {v} w = record { at = λ n. go l i n h.at }
-  where
-    go : (l : List ℤ) (i n : ℕ) → ((n : ℕ) → Within k (get_or l n (pos 0))) → Within k (get_or (set l i v) n (pos 0))
-    go [] i n h = h n
-    go (x ∷ l) zero zero h = w
-    go (x ∷ l) zero (suc n) h = h (suc n)
-    go (x ∷ l) (suc i) zero h = h zero
-    go (x ∷ l) (suc i) (suc n) h = go l i n (λ m. h (suc m))
 
 -- a value of two lists
 pub value_both : {k : ℕ} {re im : List ℤ} → Bound k re → Bound k im → (n : ℕ) → Both k (value re im n)

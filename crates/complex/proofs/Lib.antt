@@ -10,3 +10,5 @@ pub mod Components
 pub mod Lists
 pub mod Bounds
 pub mod Stored
+pub mod Blocks
+pub mod Calls

@@ -1,11 +1,11 @@
 // Whole-number complex values, 32 bits a component, and the operations that the crates above need.
 #![tactic(auto)]
 
-ghost use Rattle.std.specs.Prelude.{◌≡◌, ◌<◌, pos, neg_ℤ, length};
+ghost use Rattle.std.specs.Prelude.{◌≡◌, ℕ, ◌<◌, pos, neg_ℤ, length};
 ghost use Rattle.std.specs.Int.{w32};
 ghost use Rattle.std.proofs.Common.{SFits};
 ghost use Rattle.complex.specs.Arithmetic.{◌+j◌, ◌⊕◌, ◌⊗◌, conj, real, j^};
-ghost use Rattle.complex.specs.Buffers.{value};
+ghost use Rattle.complex.specs.Buffers.{block_of, value};
 ghost use Rattle.complex.specs.Fits.{Fits32, ProductFits32};
 
 #[repr(C)]
@@ -16,6 +16,12 @@ pub struct Complex {
 }
 
 impl Complex {
+    pub const ZERO: Complex = Complex { re: 0, im: 0 };
+
+    pub const ONE: Complex = Complex { re: 1, im: 0 };
+
+    pub const J: Complex = Complex { re: 0, im: 1 };
+
     // The sum, where its components fit.
     pub fn plus(self, other: Complex) -> Complex
         requires { Fits32 (self ⊕ other) }
@@ -72,6 +78,16 @@ impl Complex {
     }
 }
 
+// A whole number.
+impl From<i32> for Complex {
+    ghost from_gives = { λ x z. z ≡ real x };
+
+    #[tactic(auto, unfolding(crate::specs::Arithmetic::real))]
+    fn from(x: i32) -> Complex {
+        Complex { re: x, im: 0 }
+    }
+}
+
 // x times 1 + j, the form of every sync chip.
 pub fn times_one_plus_j(x: i32) -> Complex
     ensures { result ≡ real x ⊗ (pos 1 +j pos 1) }
@@ -87,5 +103,37 @@ pub fn value_at(re: &[i32], im: &[i32], n: usize) -> Complex
     Complex {
         re: re[n],
         im: im[n],
+    }
+}
+
+// Sixteen complex values, component by component.
+#[derive(Clone, Copy)]
+pub struct Block {
+    pub re: [i32; 16],
+    pub im: [i32; 16],
+}
+
+impl Block {
+    // What f makes of 0 to 15: one loop fills both arrays, so that f is called once for each value.
+    pub fn from_fn<F: Fn(usize) -> Complex>(f: F) -> Block
+        requires { (i : ℕ) → i < 16 → F.pre f i }
+        ensures { (g : ℕ → Complex) → ((i : ℕ) (z : Complex) → i < 16 → F.post f i z → z ≡ g i) → result ≡ block_of g }
+    {
+        let mut re = [0i32; 16];
+        let mut im = [0i32; 16];
+        for i in 0..16 {
+            let z = f(i);
+            re[i] = z.re;
+            im[i] = z.im;
+        }
+        Block { re, im }
+    }
+
+    // Value i.
+    pub fn at(&self, i: usize) -> Complex
+        requires { i < 16 }
+        ensures { result ≡ value self.now.re self.now.im i }
+    {
+        value_at(&self.re, &self.im, i)
     }
 }

@@ -24,18 +24,18 @@ use Rattle.slot.specs.Slot.{data_chip_count, bit_count}
 use Rattle.slot.specs.View.{entry_of_pair, held_bit}
 use Rattle.slot.proofs.Lengths.{lengths_of}
 use Rattle.tables.specs.Bits.{is_entry_of, pair_of_entry, pairs_with_bits}
-use Rattle.tables.proofs.Blocks.{Code, pairs_in_block}
+use Rattle.tables.proofs.Blocks.{IsCode, pairs_in_block}
 use Rattle.bench.specs.BenchCalls.{some_code}
 
 -- ---- codes
-pub code_of : (Q k : ℕ) → is_code Q k ≡ true → Code Q k
+pub code_of : (Q k : ℕ) → is_code Q k ≡ true → IsCode Q k
 code_of Q k e =
     let p = and_yes (is_spreading_factor Q) (ltb k Q) (subst T (sym e) tt) in
     let q = T_true (is_spreading_factor Q) p.0 in
     record { factor = q; below = ltb→lt k Q p.1; small = (factor_range Q q).1; listed = e }
 
 -- a test that passes at no code
-pub no_code_passes : (f : ℕ → ℕ → Bool) → some_code f ≡ false → (Q k : ℕ) → Code Q k → f Q k ≡ false
+pub no_code_passes : (f : ℕ → ℕ → Bool) → some_code f ≡ false → (Q k : ℕ) → IsCode Q k → f Q k ≡ false
 no_code_passes f e Q k c =
     let a = neither (any 1 (f 1) || any 2 (f 2) || any 4 (f 4) || any 8 (f 8)) (any 16 (f 16)) e in
     let b = neither (any 1 (f 1) || any 2 (f 2) || any 4 (f 4)) (any 8 (f 8)) a.0 in
@@ -51,14 +51,14 @@ nodes_test : T (each_code own_node)
 unfolding each_code own_node each
 nodes_test = tt
 
-module _ (Q k : ℕ) (c : Code Q k) where
+module _ (Q k : ℕ) (c : IsCode Q k) where
   at_this : (f : ℕ → ℕ → Bool) → T (each_code f) → T (f Q k)
   at_this f t = at_code f t Q k (subst T (sym c.factor) tt) c.below
 
   pub node_below : node Q k < 31
   node_below = omega (arith, c.below, c.small)
 
-pub same_node : (Q k Q' k' : ℕ) → Code Q k → Code Q' k' → node Q' k' ≡ node Q k → (Q' ≡ Q) × (k' ≡ k)
+pub same_node : (Q k Q' k' : ℕ) → IsCode Q k → IsCode Q' k' → node Q' k' ≡ node Q k → (Q' ≡ Q) × (k' ≡ k)
 unfolding own_node
 same_node Q k Q' k' c c' e =
     let t = at_this Q' k' c' _ (at_this Q k c own_node nodes_test) in
@@ -66,7 +66,7 @@ same_node Q k Q' k' c c' e =
     (eqb→eq Q' Q p.0, eqb→eq k' k p.1)
 
 -- ---- pairs
-module _ (Q k : ℕ) (c : Code Q k) where
+module _ (Q k : ℕ) (c : IsCode Q k) where
   -- the code has w entries in each block of 16, from entry k w of the block on
   abbrev w : ℕ
   w = width Q
@@ -85,7 +85,7 @@ module _ (Q k : ℕ) (c : Code Q k) where
       (rw (f, digits_div k l) (eq-eqb k k refl), rw (e, f, digits_mod k l) (div-add-mod' n w))
 
   -- an unrelated code does not own it: the entries that both own are leaves below both
-  other_entry : (Q' k' n : ℕ) → Code Q' k' → related Q k Q' k' ≡ false → is_entry_of Q' k' (entry_of_pair Q k n) ≡ false
+  other_entry : (Q' k' n : ℕ) → IsCode Q' k' → related Q k Q' k' ≡ false → is_entry_of Q' k' (entry_of_pair Q k n) ≡ false
   unfolding overlap
   other_entry Q' k' n c' r = ne_eqb (i / width Q') k' (λ e. true≢false (sym (both e) ∙ r))
     where
@@ -119,7 +119,7 @@ module _ (Q k : ℕ) (c : Code Q k) where
       omega (arith, (lengths_of t).pairs, mod-lt (i / 2) block.0, block)
 
 -- ---- the bits read after bits were written for code (Q, k)
-module _ (pairs : List ℕ) (Q k : ℕ) (c : Code Q k) (bits : List ℕ) (t i : ℕ) where
+module _ (pairs : List ℕ) (Q k : ℕ) (c : IsCode Q k) (bits : List ℕ) (t i : ℕ) where
   abbrev new : List ℕ
   new = pairs_with_bits pairs Q k bits
 
@@ -146,6 +146,6 @@ module _ (pairs : List ℕ) (Q k : ℕ) (c : Code Q k) (bits : List ℕ) (t i : 
       go a b (no e) = let f : 2 * (i / 2) + 1 ≡ i = omega arith in rw (ne_eqb (i % 2) 0 e) (omega (arith, ap given f))
 
   -- of an unrelated code the old ones
-  pub other_bit : (Q' k' : ℕ) → Code Q' k' → related Q' k' Q k ≡ false → i < bit_count t Q' → held_bit new Q' k' i ≡ held_bit pairs Q' k' i
+  pub other_bit : (Q' k' : ℕ) → IsCode Q' k' → related Q' k' Q k ≡ false → i < bit_count t Q' → held_bit new Q' k' i ≡ held_bit pairs Q' k' i
   other_bit Q' k' c' r l =
       ap bit (entry (entry_of_pair Q' k' (i / 2)) (inside Q' k' c' t i l) ∙ rw (other_entry Q' k' c' Q k (i / 2) c r))

@@ -23,7 +23,7 @@ use Rattle.codes.proofs.Tests.{each_all}
 use Rattle.modulation.specs.Symbols.{pair, symbol}
 use Rattle.slot.specs.Setup.{ChannelSetup, Setup, is_some}
 use Rattle.slot.specs.Slot.{slot_parts, bit_count}
-use Rattle.tables.proofs.Blocks.{Code}
+use Rattle.tables.proofs.Blocks.{IsCode}
 use Rattle.harden.specs.Hardening.{hard_pair, hard_bit, harden_call}
 use Rattle.orthogonality.proofs.Hardened.{hardened}
 use Rattle.demands.specs.Fields.{Field, field_1, field_2, field_length, chips_before, entries_from, reading_count, own_symbol, symbol_readings, no_burst, field_bits}
@@ -72,7 +72,7 @@ module _ (Q g : ℕ) (some-Q : 0 < Q) (some-g : 0 < g) (bits : List ℕ) (h : (i
 
 -- ---- hardening a channel's own readings gives the bits that the field sends
 module _ (s : Setup) (v : Valid s) (Q k : ℕ) (c : ChannelSetup) (e : s.channel Q k ≡ some c) where
-  code : Code Q k
+  code : IsCode Q k
   code = code_of Q k (v.code Q k (ap is_some e))
 
   h : ValidChannel s.type Q c

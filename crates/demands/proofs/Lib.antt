@@ -14,6 +14,7 @@ pub mod Contracts
 pub mod Steps
 pub mod History
 pub mod Runs
+pub mod Told
 pub mod Existence
 pub mod Plans
 pub mod FieldChips

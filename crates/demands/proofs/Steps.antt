@@ -13,7 +13,7 @@ use lib.ListN.{length, set, take, length-set}
 use Rattle.complex.specs.declared.Complex.{Complex}
 use Rattle.complex.specs.Buffers.{Values, written, in_buffers}
 use Rattle.complex.proofs.Lists.{take_written}
-use Rattle.codes.specs.Refusals.{Answer, refused, gives, Refusal, ◌otherwise◌}
+use Rattle.codes.specs.Refusals.{Answer, refused, gives, RefusalRule, ◌otherwise◌}
 use Rattle.codes.proofs.Refused.{Passed}
 use Rattle.modulation.specs.Nodes.{node}
 use Rattle.slot.specs.declared.Settings.{Settings}
@@ -160,7 +160,7 @@ module _ (b : Bench) (v : ValidBench b) where
       }
 
   -- "Each accepted call but start and draw changes the settings by its entry."
-  entry : (rs : List Refusal) {s : Settings} {t : Setup} → (Passed rs → Change s t)
+  entry : (rs : List RefusalRule) {s : Settings} {t : Setup} → (Passed rs → Change s t)
       → Steps (entry_step (reference_of b) (rs otherwise t)) (bench_called b (rs otherwise Tables.with_settings b s))
   entry rs {s} {t} h =
       alike (λ (x : Answer Setup) (y : Answer Bench). Steps (entry_step (reference_of b) x) (bench_called b y)) (λ n. record { same = refl; valid = v })

@@ -21,7 +21,7 @@ use Rattle.slot.specs.Setup.{ChannelSetup, Setup, is_some, is_open}
 use Rattle.slot.specs.Slot.{bit_count}
 use Rattle.slot.specs.View.{held_bit, held_channel, view_sync, view_channel, view}
 use Rattle.tables.specs.Bits.{pairs_with_bits}
-use Rattle.tables.proofs.Blocks.{Code}
+use Rattle.tables.proofs.Blocks.{IsCode}
 use Rattle.bench.specs.BenchCalls.{related_to_open}
 use Rattle.bench.specs.Changes as Tables
 use Rattle.demands.specs.Reference.{cell_set, with_channel, opened, closed, channel_changed, gain_set, bits_loaded, sync_changed, nothing_open}
@@ -90,11 +90,11 @@ reloaded zero old bits = refl
 reloaded (suc g) old bits = refl
 
 -- what is open is a code
-open_is_code : (s : Settings) (Q k : ℕ) → is_open (view s) Q k ≡ true → Code Q k
+open_is_code : (s : Settings) (Q k : ℕ) → is_open (view s) Q k ≡ true → IsCode Q k
 unfolding view view_channel
 open_is_code s Q k o = go (is_code Q k) refl
   where
-    go : (b : Bool) → is_code Q k ≡ b → Code Q k
+    go : (b : Bool) → is_code Q k ≡ b → IsCode Q k
     go true e = code_of Q k e
     go false e = absurd (false≢true (rw e at o))
 
@@ -106,7 +106,7 @@ all_listed n f l e h =
 
 -- ---- one code changed
 module _ (s : Settings) (gains : length s.gains ≡ 31) (Q k : ℕ) (c : is_code Q k ≡ true) where
-  own : Code Q k
+  own : IsCode Q k
   own = code_of Q k c
 
   abbrev Other : ℕ → ℕ → Type 0

@@ -31,7 +31,7 @@ pub record Step (S : Type 0) : Type 0 where
   pub answer : BenchAnswer
   pub next : S
 
--- A function's answer is an enum (`CallAnswer`, ..); `answer_of_call` and its like give what it stands for, document 01's number or the values (`Answer`), as the
+-- A function's answer is a `Result`; `answer_of` and `answer_of_plan` give what it stands for, document 01's number or the values (`Answer`), as the
 -- definitions of the calls do; and that, in a list, is this:
 abbrev pub as_answer : Answer (Unit {0}) → BenchAnswer
 as_answer (refused n) = refused_by n

@@ -10,10 +10,11 @@ use Rattle.std.specs.Borrow.{Bor}
 use denote.Triple.Clauses.{AtExit}
 use Rattle.bench.specs.declared.Bench.{Bench}
 use Rattle.bench.specs.declared.Channel.{Channel}
-use Rattle.bench.specs.declared.Planned.{Planned}
+use Rattle.bench.specs.declared.Answered.{Answered}
+use Rattle.bench.specs.declared.PlanRefusal.{PlanRefusal}
 use Rattle.bench.specs.contracts.Bench.load_plan.{clauses, ended}
 
-module _ (κs : Lfts 1) (given : Bench × (Bor (List Channel) × Unit {0})) (r : Planned) (e : AtExit ended κs) where
+module _ (κs : Lfts 1) (given : Bench × (Bor (List Channel) × Unit {0})) (r : Answered (Unit {0}) PlanRefusal) (e : AtExit ended κs) where
   abbrev ensures_of : (w : World) → Pr w
   ensures_of w = (clauses w.𝓛 w.𝓜.mem w.𝓡.run κs given).ensures tt r e
 

@@ -8,7 +8,7 @@ use native.Mathlib.Omega.{arith}
 use lib.IntN.{ℤ, pos, negsuc, ◌+ℤ◌, ◌-ℤ◌, ◌*ℤ◌}
 use lib.ListN.{get_or, length, take, drop}
 use mir.Syntax.{w32}
-use mir.Val.{to_z, of_z}
+use mir.Val.{SFits, to_z, of_z}
 use mir.Facts.{to_z-of_z}
 use lib.Seq.{get_or-append-add, get_or-drop, get_or-take}
 use Rattle.complex.specs.Arithmetic.{Σℤ<, squared_size}
@@ -22,7 +22,6 @@ use Rattle.complex.proofs.Sums.{Σℤ_cong}
 use Rattle.codes.specs.PackedSigns.{packed, sign_bit}
 use Rattle.codes.specs.SyncCodes.{a, a_signs}
 use Rattle.analyser_parts.specs.PartSums.{primary_sum, signed_sum}
-use Rattle.analyser_parts.proofs.Products.{held}
 use Rattle.analyser_parts.proofs.Correlations.{primary_from}
 use Rattle.find.specs.Finding.{size_from}
 use Rattle.find.specs.PeakSearch.{four_of, size_of}
@@ -31,8 +30,24 @@ use Rattle.find.specs.PeakSearch.{four_of, size_of}
 pub read_is : {z : ℤ} → Within 6400000 z → to_z w32 (of_z w32 z) ≡ z
 read_is h = to_z-of_z {w = w32} (fits_within h tt)
 
-pub read_within : {z : ℤ} → Within 6400000 z → Within 6400000 (to_z w32 (of_z w32 z))
-read_within h = held (read_is h) h
+-- ---- a step's sum of four, as the locals hold it: it fits, and which it is
+abbrev local : ℤ → ℤ
+local z = to_z w32 (of_z w32 z)
+
+pub record Step (p q r s : ℤ) : Type 0 where
+  pub sum : SFits w32 (local p +ℤ local q)
+  pub difference : SFits w32 (local r -ℤ local s)
+  pub whole : SFits w32 (local (local p +ℤ local q) +ℤ local (local r -ℤ local s))
+  pub value : local (local (local p +ℤ local q) +ℤ local (local r -ℤ local s)) ≡ p +ℤ q +ℤ (r -ℤ s)
+
+pub step : {p q r s : ℤ} → Within 6400000 p → Within 6400000 q → Within 6400000 r → Within 6400000 s → Step p q r s
+step {p} {q} {r} {s} h g k l =
+    let sum : SFits w32 (local p +ℤ local q) = rw (read_is h, read_is g) (fits_within (within_add h g) tt) in
+    let difference : SFits w32 (local r -ℤ local s) = rw (read_is k, read_is l) (fits_within (within_sub k l) tt) in
+    let sum_is : local (local p +ℤ local q) ≡ p +ℤ q = to_z-of_z sum ∙ (λ i. read_is h i +ℤ read_is g i) in
+    let difference_is : local (local r -ℤ local s) ≡ r -ℤ s = to_z-of_z difference ∙ (λ i. read_is k i -ℤ read_is l i) in
+    let whole : SFits w32 (local (local p +ℤ local q) +ℤ local (local r -ℤ local s)) = rw (sum_is, difference_is) (fits_within (within_add (within_add h g) (within_sub k l)) tt) in
+    record { sum = sum; difference = difference; whole = whole; value = to_z-of_z whole ∙ (λ i. sum_is i +ℤ difference_is i) }
 
 -- an entry past those written
 past_written : (f : ℕ → ℤ) (d : List ℤ) (n k : ℕ) → n ≤ k → (written (listed n f) d) at k ≡ d at k

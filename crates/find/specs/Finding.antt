@@ -3,13 +3,11 @@ use Rattle.std.specs.Prelude.{◌≡◌, ℤ, ℕ, ◌+◌, ◌-◌, ◌||◌, n
 use Rattle.complex.specs.declared.Complex.{Complex}
 use Rattle.complex.specs.Arithmetic.{squared_size}
 use Rattle.complex.specs.Buffers.{value}
-use Rattle.codes.specs.Refusals.{Answer, refused, gives, Refusal, ◌if◌, ◌otherwise◌}
+use Rattle.codes.specs.Refusals.{Answer, refused, gives, RefusalRule, ◌if◌, ◌otherwise◌}
 use Rattle.analyser_parts.specs.Choice.{smallest, has_largest}
 use Rattle.analyser_parts.specs.Components.{outside, either_shorter}
 use Rattle.analyser_parts.specs.Correlation.{P}
 use Rattle.find.specs.declared.Peak.{Peak}
-use Rattle.find.specs.declared.FindAnswer.{FindAnswer}
-use Rattle.find.specs.declared.FindAnswer.TheVariants.{Found, Refused}
 
 -- the squared size of P over the 256 chips from a start on
 unfoldable pub size_from : (ℕ → Complex) → ℕ → ℤ
@@ -37,7 +35,7 @@ abbrev pub scratch_length : ℕ → ℕ
 scratch_length n = n - 15
 
 -- Refuses 12; 16 n below 256 or above 5120; 17; 18 a scratch buffer shorter than n-15. The scratch buffers have m and m' entries.
-abbrev pub find_refusals : List ℤ → List ℤ → ℕ → ℕ → List Refusal
+abbrev pub find_refusals : List ℤ → List ℤ → ℕ → ℕ → List RefusalRule
 find_refusals re im m m' =
     12 if not (eqb (length re) (length im)) ∷
     16 if (ltb (length re) shortest_recording || ltb longest_recording (length re)) ∷
@@ -51,8 +49,3 @@ find_call re im m m' = find_refusals re im m m' otherwise peak (value re im) (le
 abbrev pub ScratchLeft : {A : Type 0} → Answer A → List ℤ → List ℤ → Type 0
 ScratchLeft (refused n) old new = new ≡ old
 ScratchLeft (gives a) old new = length new ≡ length old
-
--- ---- document 01's number and values for each case of the answer
-abbrev pub answer_of_find : FindAnswer → Answer Peak
-answer_of_find (Found p) = gives p
-answer_of_find (Refused n) = refused n

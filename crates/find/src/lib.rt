@@ -3,7 +3,12 @@
 #![tactic(auto)]
 
 ghost use Rattle.std.specs.Prelude.{◌≡◌, length};
-ghost use Rattle.find.specs.Finding.{find_call, answer_of_find, ScratchLeft};
+ghost use Rattle.codes.specs.Answers.{answer_of};
+ghost use Rattle.find.specs.Finding.{find_call, ScratchLeft};
+
+use analyser_parts::components;
+use codes::refusal::Refusal;
+use finding::Recording;
 
 mod finding;
 
@@ -14,24 +19,18 @@ pub struct Peak {
     pub size: i64,
 }
 
-#[derive(Clone, Copy)]
-pub enum FindAnswer {
-    Found(Peak),
-    Refused(u32),
-}
-
 // Where the primary code is strongest in a recording of 256 to 5120 chips, and how strong. `sumre` and `sumim` are
 // scratch: 15 entries fewer than the recording has chips are enough.
 // Refuses 12 re and im differ in length; 16 a recording shorter than 256 chips or longer than 5120; 17 a component outside
 // -100000 to 100000; 18 a scratch buffer too short.
-pub fn find(re: &[i32], im: &[i32], sumre: &mut [i32], sumim: &mut [i32]) -> FindAnswer
-    ensures answer { answer_of_find result ≡ find_call re.now im.now (length sumre.old) (length sumim.old) }
+pub fn find(re: &[i32], im: &[i32], sumre: &mut [i32], sumim: &mut [i32]) -> Result<Peak, Refusal>
+    ensures answer { answer_of result ≡ find_call re.now im.now (length sumre.old) (length sumim.old) }
     ensures real { ScratchLeft (find_call re.now im.now (length sumre.old) (length sumim.old)) sumre.old sumre.new }
     ensures imaginary { ScratchLeft (find_call re.now im.now (length sumre.old) (length sumim.old)) sumim.old sumim.new }
 {
-    let number = finding::refusal(re, im, sumre.len(), sumim.len());
-    if number != 0 {
-        return FindAnswer::Refused(number);
+    let recording = Recording::new(re, im)?;
+    if components::is_either_shorter(sumre.len(), sumim.len(), re.len() - 15) {
+        return Err(Refusal::BufferTooShort);
     }
-    FindAnswer::Found(finding::peak(re, im, sumre, sumim))
+    Ok(recording.peak(sumre, sumim))
 }

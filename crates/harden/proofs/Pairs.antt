@@ -1,16 +1,16 @@
 -- Hardening: two comparisons give the bits of the pair with the largest score, the earliest on a tie. Assumes nothing.
-use mathlib.Core.Path.{◌≡◌, refl, ap}
-use mathlib.Core.Bool.{Bool, true, false, cond}
+use mathlib.Core.Path.{◌≡◌, refl, ap, ◌∙◌}
+use mathlib.Core.Bool.{Bool, true, false, not, cond}
 use Prim.Native.Nat.{ℕ, zero, suc, ◌+◌, ◌*◌, ◌/◌, ◌%◌, ◌<◌, ◌≤◌}
 use native.Mathlib.Omega.{arith}
 use lib.IntN.{ℤ, pos, negsuc, neg_ℤ, ◌-ℤ◌}
 use lib.Signed.{mag, le_z, lt_z}
 use mir.Syntax.{Width}
-use mir.Val.{SFits}
+use mir.Val.{SFits, bool_byte}
 use Rattle.complex.specs.declared.Complex.{Complex}
 use Rattle.complex.specs.Arithmetic.{◌+j◌}
 use Rattle.complex.proofs.Integers.{pos_part, neg_part, negℤ_pos_part, negℤ_neg_part, +ℤ_parts, by_parts}
-use Rattle.complex.proofs.Order.{lt_z_true, lt_z_false, le_le_z, lt_lt_z}
+use Rattle.complex.proofs.Order.{lt_z_true, lt_z_false, le_le_z, lt_lt_z, lt_le_z}
 use Rattle.analyser_parts.proofs.Choosing.{peaks_is}
 use Rattle.harden.specs.Hardening.{pair_score, hard_pair, hard_bit}
 
@@ -22,6 +22,22 @@ same_mag (negsuc n) = ap mag (by_parts (negsuc 0 -ℤ negsuc n) (pos n) (omega (
 
 pub complement_fits : {w : Width} {y : ℤ} → SFits w y → SFits w (negsuc 0 -ℤ y)
 complement_fits {w} {y} f = record { sfits = rw (same_mag y) f.sfits }
+
+-- ---- a test as a byte
+byte : (t : Bool) → bool_byte t ≡ cond t 1 0
+byte true = refl
+byte false = refl
+
+not_byte : (t : Bool) → bool_byte (not t) ≡ cond t 0 1
+not_byte true = refl
+not_byte false = refl
+
+le_not : (x y : ℤ) → le_z x y ≡ not (lt_z y x)
+le_not x y = by (lt_z y x) refl
+  where
+    by : (t : Bool) → lt_z y x ≡ t → le_z x y ≡ not t
+    by true e = lt_le_z x y (lt_z_true y x e)
+    by false e = le_le_z x y (lt_z_false y x e)
 
 -- ---- the pair
 below_4 : (P : ℕ → Type 0) → P 0 → P 1 → P 2 → P 3 → (k : ℕ) → k < 4 → P k
@@ -96,6 +112,13 @@ module _ (x y : ℤ) where
 
   pub second_is : (t : Bool) → lt_z y x ≡ t → cond t 1 0 ≡ hard_pair (x +j y) % 2
   second_is t e = omega (arith, pair_is (lt_z (negsuc 0 -ℤ y) x) t refl e, at_most_1 t)
+
+  -- the same of the bytes that the code makes of its comparisons
+  pub first_byte : bool_byte (le_z x (negsuc 0 -ℤ y)) ≡ hard_pair (x +j y) / 2
+  first_byte = let s = lt_z (negsuc 0 -ℤ y) x in ap bool_byte (le_not x (negsuc 0 -ℤ y)) ∙ not_byte s ∙ first_is s refl
+
+  pub second_byte : bool_byte (lt_z y x) ≡ hard_pair (x +j y) % 2
+  second_byte = let t = lt_z y x in byte t ∙ second_is t refl
 
 -- the two bits of reading n
 module _ (y : ℕ → Complex) (n : ℕ) where

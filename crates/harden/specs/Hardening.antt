@@ -2,10 +2,8 @@
 use Rattle.std.specs.Prelude.{ℤ, pos, neg_ℤ, ℕ, ◌*◌, ◌/◌, ◌%◌, cond, not, List, [], ◌∷◌, eqb, ltb, length, get_or}
 use Rattle.complex.specs.declared.Complex.{Complex}
 use Rattle.complex.specs.Buffers.{value, listed}
-use Rattle.codes.specs.Refusals.{Answer, refused, gives, Refusal, ◌if◌, ◌otherwise◌}
+use Rattle.codes.specs.Refusals.{Answer, RefusalRule, ◌if◌, ◌otherwise◌}
 use Rattle.analyser_parts.specs.Choice.{smallest, has_largest}
-use Rattle.harden.specs.declared.HardenAnswer.{HardenAnswer}
-use Rattle.harden.specs.declared.HardenAnswer.TheVariants.{Hardened, Refused}
 
 -- For reading y the pairs 00, 01, 10, 11 score im, re, -re, -im;
 unfoldable pub pair_score : Complex → ℕ → ℤ
@@ -20,13 +18,8 @@ unfoldable pub hard_bit : (ℕ → Complex) → ℕ → ℕ
 hard_bit y b = cond (eqb (b % 2) 0) (hard_pair (y (b / 2)) / 2) (hard_pair (y (b / 2)) % 2)
 
 -- Refuses 12; 18 fewer than two bytes a reading. The byte buffer has m bytes.
-abbrev pub harden_refusals : List ℤ → List ℤ → ℕ → List Refusal
+abbrev pub harden_refusals : List ℤ → List ℤ → ℕ → List RefusalRule
 harden_refusals re im m = 12 if not (eqb (length re) (length im)) ∷ 18 if ltb m (2 * length re) ∷ []
 
 abbrev pub harden_call : List ℤ → List ℤ → ℕ → Answer (List ℕ)
 harden_call re im m = harden_refusals re im m otherwise listed (2 * length re) (hard_bit (value re im))
-
--- ---- document 01's number and values for each case of the answer: the bits are in the byte buffer
-abbrev pub answer_of_harden : HardenAnswer → Answer (Unit {0})
-answer_of_harden Hardened = gives tt
-answer_of_harden (Refused n) = refused n

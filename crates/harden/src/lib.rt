@@ -4,29 +4,26 @@
 
 ghost use Rattle.std.specs.Prelude.{◌≡◌, length};
 ghost use Rattle.complex.specs.Buffers.{written};
+ghost use Rattle.codes.specs.Answers.{answer_of};
 ghost use Rattle.codes.specs.Refusals.{outcome, after};
-ghost use Rattle.harden.specs.Hardening.{harden_call, answer_of_harden};
+ghost use Rattle.harden.specs.Hardening.{harden_call};
+
+use codes::refusal::Refusal;
 
 mod hardening;
 
-#[derive(Clone, Copy)]
-pub enum HardenAnswer {
-    Hardened,
-    Refused(u32),
-}
-
 // Hard bits of readings, one byte a bit, two bits a reading, to `bits`.
 // Refuses 12 re and im differ in length; 18 fewer than two bytes a reading.
-pub fn harden(re: &[i32], im: &[i32], bits: &mut [u8]) -> HardenAnswer
-    ensures answer { answer_of_harden result ≡ outcome (harden_call re.now im.now (length bits.old)) }
+pub fn harden(re: &[i32], im: &[i32], bits: &mut [u8]) -> Result<(), Refusal>
+    ensures answer { answer_of result ≡ outcome (harden_call re.now im.now (length bits.old)) }
     ensures bytes { bits.new ≡ after (harden_call re.now im.now (length bits.old)) bits.old (λ b. written b bits.old) }
 {
     if re.len() != im.len() {
-        return HardenAnswer::Refused(12);
+        return Err(Refusal::LengthsDiffer);
     }
     if bits.len() / 2 < re.len() {
-        return HardenAnswer::Refused(18);
+        return Err(Refusal::BufferTooShort);
     }
     hardening::all(re, im, bits);
-    HardenAnswer::Hardened
+    Ok(())
 }

@@ -1,5 +1,5 @@
--- The entries of a level of the tree: how one is made, how large they are, and what a level with no open code adds. Assumes nothing.
-use mathlib.Core.Path.{◌≡◌, sym, ap, ◌∙◌}
+-- The entries of a level of the tree: how large they are, and what a level with no open code adds. Assumes nothing.
+use mathlib.Core.Path.{◌≡◌, refl, sym, ap, ◌∙◌}
 use mathlib.Core.Bool.{Bool, true, false, cond, not, false≢true}
 use mathlib.Core.List.{List}
 use Prim.Native.Nat.{ℕ, ◌+◌, ◌/◌, ◌%◌, ◌≤◌, ◌<◌}
@@ -7,7 +7,7 @@ use native.Mathlib.Decide.{ℕ_discrete}
 use native.Mathlib.Omega.{arith}
 use borrow.Author.Tests.{ne_eqb}
 use lib.Dec.{eqb}
-use lib.IntN.{ℤ, pos, ◌+ℤ◌, ◌-ℤ◌, ◌*ℤ◌, +ℤ_idr, zero-*ℤ}
+use lib.IntN.{ℤ, pos, ◌+ℤ◌, ◌-ℤ◌, +ℤ_idr, zero-*ℤ}
 use lib.ListN.{get_or}
 use Rattle.complex.specs.Buffers.{listed}
 use Rattle.complex.specs.Fits.{Within, Bound}
@@ -18,17 +18,22 @@ use Rattle.codes.specs.Tree.{is_spreading_factor, width}
 use Rattle.codes.proofs.Factors.{of_factors}
 use Rattle.codes.proofs.Tests.{none_at}
 use Rattle.modulation.specs.SixteenChips.{raised, own, climbed, with_own, has_open}
+use Rattle.modulation.specs.declared.data.Level.{Level}
+use Rattle.modulation.specs.declared.data.Level.TheVariants.{Q1, Q2, Q4, Q8, Q16}
+use Rattle.modulation.specs.Levels.{factor}
 use Rattle.modulation.specs.Nodes.{node}
+
+-- a level's factor is one
+pub a_factor : (l : Level) → is_spreading_factor (factor l) ≡ true
+a_factor Q1 = refl
+a_factor Q2 = refl
+a_factor Q4 = refl
+a_factor Q8 = refl
+a_factor Q16 = refl
 
 -- the entries of level Q, from those of the level below
 abbrev pub level_entries : List ℕ → List ℤ → ℕ → List ℤ → List ℤ
 level_entries gains s Q x = listed 16 (climbed gains s x Q)
-
--- an entry, from what the code has computed for it
-pub with_own_is : (gains : List ℕ) (s x : List ℤ) (Q i : ℕ) {r u v : ℤ} {g : ℕ} → r ≡ u +ℤ pos g *ℤ v → u ≡ get_or x i (pos 0)
-    → g ≡ get_or gains (node Q (i / width Q)) 0 → v ≡ get_or s i (pos 0) → r ≡ with_own gains s x Q i
-unfolding own
-with_own_is gains s x Q i e a b c = e ∙ (λ j. a j +ℤ pos (b j) *ℤ c j)
 
 -- ---- sizes
 module _ {k : ℕ} {x : List ℤ} (h : Bound k x) where

@@ -12,7 +12,7 @@ use lib.IntN.{ℤ, pos, neg_ℤ, ◌+ℤ◌, ◌-ℤ◌, ◌*ℤ◌, zero-*ℤ, 
 use lib.ListN.{get_or}
 use Rattle.complex.specs.declared.Complex.{Complex}
 use Rattle.complex.specs.Arithmetic.{◌+j◌, real, ◌⊗◌}
-use Rattle.complex.specs.Buffers.{listed, value}
+use Rattle.complex.specs.Buffers.{block_of, listed, value}
 use Rattle.complex.specs.Fits.{Within, Bound}
 use Rattle.complex.proofs.Integers.{ring, *ℤ_pos_one}
 use Rattle.complex.proofs.Lists.{listed_at}
@@ -23,9 +23,9 @@ use Rattle.complex.proofs.Sizes.{within_more, within_mul, within_neg}
 use Rattle.codes.specs.PackedSigns.{signed_by_j}
 use Rattle.codes.specs.Scrambling.{v, scrambling_element}
 use Rattle.codes.proofs.Rows.{v_within}
-use Rattle.modulation.specs.declared.Block.{Block}
-use Rattle.modulation.specs.SixteenChips.{block_of, scrambling_signs, scrambled}
-use Rattle.modulation.proofs.Blocks.{block_bound}
+use Rattle.complex.specs.declared.Block.{Block}
+use Rattle.modulation.specs.SixteenChips.{scrambling_signs, scrambled}
+use Rattle.complex.proofs.Blocks.{block_bound}
 
 -- a product of four terms, two of which are 0 on the left and one on the right
 one_term : (x y b : ℤ) → ((pos 0 *ℤ pos 1 -ℤ b *ℤ pos 1) *ℤ y ≡ x *ℤ pos 0 -ℤ y *ℤ b) × ((pos 0 *ℤ pos 1 +ℤ b *ℤ pos 1) *ℤ x ≡ x *ℤ b +ℤ y *ℤ pos 0)

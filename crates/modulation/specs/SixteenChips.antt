@@ -10,14 +10,9 @@ use Rattle.codes.specs.Tree.{over_factors, element, width}
 use Rattle.codes.specs.declared.ModulatedCode.{ModulatedCode}
 use Rattle.codes.specs.declared.Allocated.{Allocated}
 use Rattle.codes.specs.SyncCodes.{a, b}
-use Rattle.modulation.specs.declared.Block.{Block}
 use Rattle.modulation.specs.declared.data.OpenLevels.{OpenLevels}
 use Rattle.modulation.specs.Nodes.{node, open_at}
 use Rattle.modulation.specs.Symbols.{symbol}
-
--- f 0, .., f 15 in a block
-abbrev pub block_of : (ℕ → Complex) → Block
-block_of f = record { re = listed 16 (λ i. (f i).re); im = listed 16 (λ i. (f i).im) }
 
 -- ---- data: a block of sixteen chips from sixteen entries, one component x of their symbols at a time
 -- what the codes of factor Q add to chip c

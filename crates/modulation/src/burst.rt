@@ -1,15 +1,15 @@
 // The sync burst by its parts of sixteen chips.
 ghost use Rattle.std.specs.Prelude.{◌≡◌, ◌+◌, ◌*◌, ◌<◌, pos, ◌+ℤ◌, get_or};
 ghost use Rattle.complex.specs.Arithmetic.{◌+j◌, real, 𝟎, ◌⊗◌};
-ghost use Rattle.complex.specs.Buffers.{listed};
+ghost use Rattle.complex.specs.Buffers.{block_of, listed};
 ghost use Rattle.complex.specs.Fits.{Both, Bound, Within};
 ghost use Rattle.codes.specs.Burst.{burst};
-ghost use Rattle.modulation.specs.SixteenChips.{block_of, modulated_part as modulated_part_of, modulated_parts as modulated_parts_of, part_chip as part_chip_of};
+ghost use Rattle.modulation.specs.SixteenChips.{modulated_part as modulated_part_of, modulated_parts as modulated_parts_of, part_chip as part_chip_of};
 
-use crate::Block;
 use codes::signs::sign_at;
 use codes::{Allocated, CodeGroup, ModulatedCode, burst, sync};
-use complex::Complex;
+use complex::{Block, Complex};
+use std::array;
 
 // The unit of a modulated code with the sign of the code's part m.
 fn modulated_part(c: ModulatedCode, m: u32) -> Complex
@@ -38,7 +38,7 @@ fn gained(g: u16, t: Complex) -> Complex
     requires { Both 3 t }
     ensures { result ≡ real (pos g) ⊗ (t ⊗ (pos 1 +j pos 1)) }
 {
-    let gain = g as i32;
+    let gain = i32::from(g);
     Complex {
         re: gain * (t.re - t.im),
         im: gain * (t.re + t.im),
@@ -58,24 +58,15 @@ fn part_chip(p: i32, s: Complex, i: u32) -> Complex
     }
 }
 
-// Chips 16m to 16m + 15 of the burst of a group.
+// Chips 16m to 16m + 15 of the burst of a group. It takes what the definition `burst` takes, one by one, in its order.
 pub fn part(case: u32, group: CodeGroup, frame: u32, half: u32, gp: u16, gs: u16, m: u32) -> Block
     requires { m < 16 }
     ensures { result ≡ block_of (λ i. burst case group.0 frame half gp gs (m * 16 + i)) }
 {
-    let p = sync::a_repeat(m) * gp as i32;
+    let p = sync::a_repeat(m) * i32::from(gp);
     let t = modulated_parts(burst::allocated(case, group, frame, half), m);
     let s = gained(gs, t);
-    let mut re = [0i32; 16];
-    let mut im = [0i32; 16];
-    for i in 0..16 {
-        let c = part_chip(p, s, i as u32);
-        let a = c.re;
-        let b = c.im;
-        re[i] = a;
-        im[i] = b;
-    }
-    Block { re: re, im: im }
+    Block::from_fn(|i| part_chip(p, s, i as u32))
 }
 
 // Sixteen chips of 0.
@@ -93,9 +84,5 @@ pub fn sums(x: &[i32; 16], y: &[i32; 16]) -> [i32; 16]
     requires { Bound 2031585 x.now × Bound 1000000 y.now }
     ensures { result ≡ listed 16 (λ i. get_or x.now i (pos 0) +ℤ get_or y.now i (pos 0)) }
 {
-    let mut z = [0i32; 16];
-    for i in 0..16 {
-        z[i] = x[i] + y[i];
-    }
-    z
+    array::from_fn(|i| x[i] + y[i])
 }

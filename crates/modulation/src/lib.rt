@@ -3,10 +3,3 @@
 
 pub mod burst;
 pub mod data;
-
-// Sixteen complex values.
-#[derive(Clone, Copy)]
-pub struct Block {
-    pub re: [i32; 16],
-    pub im: [i32; 16],
-}

@@ -20,7 +20,7 @@ use Rattle.codes.specs.Tree.{element}
 use Rattle.codes.proofs.Tests.{each_at, same, same→eq}
 use Rattle.read.specs.Multipliers.{multiplier, multiplied_sum, place_sign, is_sign, PowerOfJ, PowersOfJ, imaginary, whole}
 use Rattle.read.specs.Reading.{reading}
-use Rattle.read.proofs.Lanes.{sign_negℤ, place_sign_is, placed, multiplier_is}
+use Rattle.read.proofs.Signs.{sign_negℤ, place_sign_is, placed, multiplier_is}
 use Rattle.read.proofs.Readings.{reading_is}
 
 -- ---- the signs of the two products

@@ -37,6 +37,10 @@ lane s chip from l =
 abbrev pub lanes_of : (ℕ → ℤ) → (ℕ → Complex) → ℕ → Complex
 lanes_of s chip c = lane s chip (16 * (c / 4)) (c % 4)
 
+-- the first n lanes stand in two buffers
+pub record HasLanes (s : ℕ → ℤ) (chip : ℕ → Complex) (n : ℕ) (re im : List ℤ) : Type 0 where
+  pub each : (c : ℕ) → c < n → value re im c ≡ lanes_of s chip c
+
 -- reading m of its four lanes: those of the even places are multiplied by j
 unfoldable pub from_lanes : (ℕ → Complex) → ℕ → Complex
 from_lanes y m = y (4 * m + 1) ⊕ y (4 * m + 3) ⊕ j^ 1 ⊗ (y (4 * m) ⊕ y (4 * m + 2))

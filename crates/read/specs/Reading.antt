@@ -5,10 +5,8 @@ use Rattle.complex.specs.Arithmetic.{real, ◌⊗◌, conj, Σ<}
 use Rattle.complex.specs.Buffers.{value, Values, in_buffers}
 use Rattle.codes.specs.Tree.{is_spreading_factor, element}
 use Rattle.codes.specs.Scrambling.{scrambling_element}
-use Rattle.codes.specs.Refusals.{Answer, refused, gives, Refusal, ◌if◌, ◌otherwise◌}
+use Rattle.codes.specs.Refusals.{Answer, RefusalRule, ◌if◌, ◌otherwise◌}
 use Rattle.analyser_parts.specs.Components.{outside, either_shorter}
-use Rattle.read.specs.declared.ReadAnswer.{ReadAnswer}
-use Rattle.read.specs.declared.ReadAnswer.TheVariants.{Read, Refused}
 
 -- Reading n is the sum over the n-th Q chips of chip × conj(complex scrambling element) × code element.
 -- n counts from 0, and chip q of a field, from 0, has complex scrambling element 1 + (q mod 16).
@@ -24,7 +22,7 @@ bad_field_length n = eqb n 0 || ltb longest_field n || not (eqb (n % 16) 0)
 
 -- Refuses 1; 3; 4; 12; 16 length 0, above 1104 or no multiple of 16; 17 a component outside -100000 to 100000; 18 an answer buffer
 -- shorter than length/Q. The answer buffers have m and m' entries.
-abbrev pub read_refusals : ℕ → ℕ → ℕ → List ℤ → List ℤ → ℕ → ℕ → List Refusal
+abbrev pub read_refusals : ℕ → ℕ → ℕ → List ℤ → List ℤ → ℕ → ℕ → List RefusalRule
 read_refusals p Q k re im m m' =
     1 if leb 128 p ∷
     3 if not (is_spreading_factor Q) ∷
@@ -37,8 +35,3 @@ read_refusals p Q k re im m m' =
 -- the answer: length/Q readings
 abbrev pub read_call : ℕ → ℕ → ℕ → List ℤ → List ℤ → ℕ → ℕ → Answer Values
 read_call p Q k re im m m' = read_refusals p Q k re im m m' otherwise in_buffers (length re / Q) (reading p Q k (value re im))
-
--- ---- document 01's number and values for each case of the answer: the readings are in the answer buffers
-abbrev pub answer_of_read : ReadAnswer → Answer (Unit {0})
-answer_of_read Read = gives tt
-answer_of_read (Refused n) = refused n

@@ -4,21 +4,22 @@
 
 ghost use Rattle.std.specs.Prelude.{◌≡◌, length};
 ghost use Rattle.complex.specs.Buffers.{written};
+ghost use Rattle.codes.specs.Answers.{answer_of};
 ghost use Rattle.codes.specs.Refusals.{outcome, after};
-ghost use Rattle.read.specs.Reading.{read_call, answer_of_read};
+ghost use Rattle.read.specs.Reading.{read_call};
 
+use analyser_parts::components;
 use codes::CellParameter;
+use codes::refusal::Refusal;
+use field::FieldChips;
+use reader::Reader;
 
+mod field;
 mod one;
+mod reader;
 mod reading;
 mod signed;
 mod sixteen;
-
-#[derive(Clone, Copy)]
-pub enum ReadAnswer {
-    Read,
-    Refused(u32),
-}
 
 // Reads code (q, k) from a field of 16 to 1104 chips; the readings, one for q chips, go to `outre` and `outim`.
 // Refuses 1 parameter above 127; 3 bad q; 4 k not below q; 12 re and im differ in length; 16 length 0, above 1104 or no
@@ -31,15 +32,17 @@ pub fn read(
     im: &[i32],
     outre: &mut [i32],
     outim: &mut [i32],
-) -> ReadAnswer
-    ensures answer { answer_of_read result ≡ outcome (read_call cell.0 q k re.now im.now (length outre.old) (length outim.old)) }
+) -> Result<(), Refusal>
+    ensures answer { answer_of result ≡ outcome (read_call cell.0 q k re.now im.now (length outre.old) (length outim.old)) }
     ensures real { outre.new ≡ after (read_call cell.0 q k re.now im.now (length outre.old) (length outim.old)) outre.old (λ y. written y.re outre.old) }
     ensures imaginary { outim.new ≡ after (read_call cell.0 q k re.now im.now (length outre.old) (length outim.old)) outim.old (λ y. written y.im outim.old) }
 {
-    let number = reading::refusal(cell, q, k, re, im, outre.len(), outim.len());
-    if number != 0 {
-        return ReadAnswer::Refused(number);
+    let reader = Reader::new(cell, q, k)?;
+    let field = FieldChips::new(re, im)?;
+    let n = field.len() / reader.code.q as usize;
+    if components::is_either_shorter(outre.len(), outim.len(), n) {
+        return Err(Refusal::BufferTooShort);
     }
-    reading::all(cell, q, k, re, im, outre, outim);
-    ReadAnswer::Read
+    reading::all(reader, &field, outre, outim);
+    Ok(())
 }

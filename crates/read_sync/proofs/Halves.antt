@@ -21,8 +21,13 @@ use Rattle.codes.specs.Range.{each}
 use Rattle.codes.specs.SyncCodes.{a, b}
 use Rattle.codes.proofs.Rows.{sign_within}
 use Rattle.codes.proofs.Tests.{each_at, same, same→eq}
+use mir.Syntax.{w32}
+use mir.Val.{SFits, to_z, of_z}
+use mir.Facts.{to_z-of_z}
+use Rattle.complex.specs.Fits.{Within}
+use Rattle.complex.proofs.Sizes.{fits_within}
 use Rattle.analyser_parts.specs.PartSums.{signed_sum}
-use Rattle.read_sync.specs.Shares.{half_sum}
+use Rattle.read_sync.specs.Shares.{half_sum, sum_with_signs}
 
 -- a sum of m terms and of those after them
 Σℤ_after : (m n : ℕ) (f : ℕ → ℤ) → Σℤ< (m + n) f ≡ Σℤ< m f +ℤ Σℤ< n (λ i. f (m + i))
@@ -34,6 +39,21 @@ unfolding Σℤ<
 unfolding Σℤ<
 Σℤ_negℤ zero f = refl
 Σℤ_negℤ (suc n) f = rw (Σℤ_negℤ n f) (simp ring)
+
+-- sixteen terms from the first entry on
+pub whole_sum : (x : List ℤ) (row : ℕ) → sum_with_signs 16 x 0 row 0 ≡ signed_sum x 0 row
+unfolding signed_sum
+whole_sum x row =
+    Σℤ_cong 16 (λ i. sign_bit row (0 + i) *ℤ get_or x (0 + i) (pos 0)) (λ i. sign_bit row i *ℤ get_or x (0 + i) (pos 0))
+    (λ i l. ap (λ (k : ℕ). sign_bit row k *ℤ get_or x (0 + i) (pos 0)) (zero-add i))
+
+-- a term, as the locals hold its factors: it fits, and which it is
+pub term_held : {s t x : ℤ} → SFits w32 s → s ≡ t → Within 1 t → Within 1600000 x
+    → SFits w32 (to_z w32 (of_z w32 s) *ℤ to_z w32 (of_z w32 x)) × (to_z w32 (of_z w32 (to_z w32 (of_z w32 s) *ℤ to_z w32 (of_z w32 x))) ≡ t *ℤ x)
+term_held f e h k =
+    let sign_is = to_z-of_z f ∙ e in
+    let entry_is = to_z-of_z {w = w32} (fits_within k tt) in
+    (rw (sign_is, entry_is) (fits_within (within_mul h k) tt), rw (sign_is, entry_is) (to_z-of_z {w = w32} (fits_within (within_mul h k) tt)))
 
 -- the last eight signs of b are those of a, negated
 negated : ℕ → Bool

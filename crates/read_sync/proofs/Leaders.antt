@@ -91,6 +91,11 @@ module _ (n m : ℕ) where
                 );
           }
 
+-- the same from `first` on
+pub leads_joined : (s : ℕ → ℤ) (first n m : ℕ) (b c : Leader) → Leads (λ k. s (first + k)) n b → Leads (λ k. s (first + n + k)) m c → Leads (λ k. s (first + k)) (n + m) (leader_or_later b n c)
+leads_joined s first n m b c h g =
+    leads_or_later n m (λ k. s (first + k)) b c h (leads_cong (λ k. s (first + n + k)) (λ k. s (first + (n + k))) m c (λ k l. let e : first + n + k ≡ first + (n + k) = omega arith in ap s e) g)
+
 -- ---- the candidates in another order: p and q undo each other
 pub leads_placed : (s : ℕ → ℤ) (n : ℕ) (p q : ℕ → ℕ) → ((k : ℕ) → k < n → (p k < n) × (q k < n) × (p (q k) ≡ k) × (q (p k) ≡ k))
     → (b : Leader) → Leads (λ k. s (p k)) n b → Leads s n (record { at = p b.at; score = b.score; alone = b.alone })

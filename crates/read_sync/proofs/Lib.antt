@@ -6,3 +6,4 @@ pub mod Halves
 pub mod Shares
 pub mod Rows
 pub mod Sets
+pub mod Cases

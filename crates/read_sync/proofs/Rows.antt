@@ -1,11 +1,8 @@
 -- A row of the allocation table: its eight candidates send the same codes, each with its own three signs. Which candidate has which signs is the code
 -- itself (`place_in_row`): `rows_test` holds it to the allocation of `codes`. Assumes nothing.
-use mathlib.Core.Path.{◌≡◌, refl, sym, ap, ◌∙◌, subst}
-use mathlib.Core.Bool.{Bool, true, ◌&&◌, cond}
-use mathlib.Core.List.{[], ◌∷◌}
+use mathlib.Core.Path.{◌≡◌, sym, ap, ◌∙◌}
+use mathlib.Core.Bool.{Bool, ◌&&◌, cond}
 use Prim.Native.Nat.{ℕ, ◌+◌, ◌*◌, ◌/◌, ◌%◌, ◌<◌}
-use native.Mathlib.Decide.{ℕ_discrete}
-use native.Mathlib.Omega.{arith}
 use mir.Facts.{and_yes}
 use lib.Dec.{T, eqb, eqb→eq, ltb, ltb→lt}
 use lib.IntN.{ℤ, ◌+ℤ◌, ◌*ℤ◌}
@@ -17,28 +14,13 @@ use Rattle.codes.specs.Range.{each}
 use Rattle.codes.specs.declared.ModulatedCode.{ModulatedCode}
 use Rattle.codes.specs.declared.Allocated.{Allocated}
 use Rattle.codes.specs.Allocation.{allocation, case_1, case_2, code_set, bad_frame_or_half, one_or_two, allocation_row, signed}
-use Rattle.codes.proofs.Tests.{each_at, none_of, same, same→eq}
+use Rattle.codes.proofs.Tests.{each_at, same, same→eq}
 use Rattle.analyser_parts.proofs.Products.{times_conj}
-use Rattle.read_sync.specs.SyncReading.{candidate, candidate_count, candidate_codes}
+use Rattle.read_sync.specs.SyncReading.{candidate, candidate_codes}
 use Rattle.read_sync.specs.Shares.{share_of, shares_of}
 use Rattle.read_sync.specs.Leaders.{leader_of_row, leader_of_signs, Leads, place_in_row}
 use Rattle.read_sync.proofs.Leaders.{leads_cong, leads_placed}
 use Rattle.read_sync.proofs.SumLeaders.{leads_of_signs, leads_with}
-
--- ---- the cases
-pub record Case (case : ℕ) : Type 0 where
-  pub some : 0 < case
-  pub below : case < 3
-  pub sets : candidate_count case ≡ 32 * (2 * case)
-
-pub case_known : (case : ℕ) → one_or_two case ≡ true → Case case
-unfolding one_or_two
-case_known case t = go (ℕ_discrete case 1) (ℕ_discrete case 2)
-  where
-    go : Dec (case ≡ 1) → Dec (case ≡ 2) → Case case
-    go (yes e) d = subst Case (sym e) (record { some = omega arith; below = omega arith; sets = refl })
-    go (no n) (yes e) = subst Case (sym e) (record { some = omega arith; below = omega arith; sets = refl })
-    go (no n) (no m) = absurd (subst T (sym t ∙ none_of (1 ∷ 2 ∷ []) case ((tt, n), m)) tt)
 
 -- ---- the places in a row
 -- the signs of the candidate at a place

@@ -1,12 +1,11 @@
 -- A code set has four rows of the allocation table: its leader. Assumes nothing.
-use mathlib.Core.Path.{◌≡◌, refl, ap, ◌∙◌, subst}
+use mathlib.Core.Path.{◌≡◌, refl, ◌∙◌, subst}
 use mathlib.Core.Logic.{◌≢◌}
 use mathlib.Core.Bool.{Bool, ◌&&◌}
 use Prim.Native.Nat.{ℕ, zero, suc, ◌+◌, ◌*◌, ◌<◌}
-use native.Mathlib.Nat.{zero-add}
 use native.Mathlib.Omega.{arith}
 use mir.Facts.{and_yes}
-use lib.Dec.{T, eqb, eqb→eq, ltb, ltb→lt, lit<}
+use lib.Dec.{T, eqb, eqb→eq, ltb, ltb→lt}
 use lib.IntN.{ℤ, pos, neg_ℤ, nat_abs, ◌-ℤ◌, ◌*ℤ◌}
 use Rattle.complex.specs.declared.Complex.{Complex}
 use Rattle.complex.specs.Arithmetic.{real, 𝟎, 𝟏, 𝐣, ◌⊗◌, conj}
@@ -18,10 +17,11 @@ use Rattle.codes.specs.declared.burst.CodeSet.{CodeSet}
 use Rattle.codes.specs.Allocation.{allocation, case_1, case_2, code_set, bad_frame_or_half, one_or_two, allocation_row, signed}
 use Rattle.codes.proofs.Tests.{each_at, same, same→eq}
 use Rattle.read_sync.specs.SyncReading.{candidate}
+use Rattle.read_sync.specs.declared.case.Case.{Case}
+use Rattle.read_sync.specs.declared.case.Case.TheVariants.{One, Two}
+use Rattle.read_sync.specs.Cases.{set_count}
 use Rattle.read_sync.specs.Shares.{share_of, shares_of}
-use Rattle.read_sync.specs.Leaders.{leader_in_row, leader_of_row, leader_of_signs, leader_or_later, Leads, SmallSet}
-use Rattle.read_sync.specs.declared.sync_reading.Leader.{Leader}
-use Rattle.read_sync.proofs.Leaders.{leads_cong, leads_or_later}
+use Rattle.read_sync.specs.Leaders.{leader_in_row, leader_of_row, leader_of_signs, Leads, SmallSet}
 use Rattle.read_sync.proofs.Rows.{codes, row_leads}
 
 sends : ℕ → Complex → ModulatedCode → Bool
@@ -45,7 +45,7 @@ small_sets : T (each 4 small_set)
 unfolding each small_set code_set
 small_sets = tt
 
-pub set_small : (n : ℕ) → n < 4 → SmallSet (code_set (1 + n))
+set_small : (n : ℕ) → n < 4 → SmallSet (code_set (1 + n))
 unfolding small_set
 set_small n h =
     let s = code_set (1 + n) in
@@ -53,13 +53,21 @@ set_small n h =
     let b = and_yes (ltb s.b 16) _ a.1 in
     record { a = ltb→lt s.a 16 a.0; b = ltb→lt s.b 16 b.0; d = ltb→lt s.d 16 b.1 }
 
-pub row_small : (q : ℕ) (s : CodeSet) → q < 4 → SmallSet s → ((allocation_row q s).first < 16) × ((allocation_row q s).second < 16) × ((allocation_row q s).marker < 16)
+row_small : (q : ℕ) (s : CodeSet) → q < 4 → SmallSet s → ((allocation_row q s).first < 16) × ((allocation_row q s).second < 16) × ((allocation_row q s).marker < 16)
 unfolding allocation_row
 row_small zero s l h = (h.a, h.b, h.d)
 row_small (suc zero) s l h = (h.a, h.b, h.d)
 row_small (suc (suc zero)) s l h = (h.a, h.d, h.b)
 row_small (suc (suc (suc zero))) s l h = (h.b, h.d, h.a)
 row_small (suc (suc (suc (suc q)))) s l h = absurd (omega (arith, l))
+
+pub set_row_small : (case : Case) (n q : ℕ) → n < set_count case → q < 4
+    → let w = allocation_row q (code_set (1 + n)) in (w.first < 16) × (w.second < 16) × (w.marker < 16)
+set_row_small case n q h g = row_small q (code_set (1 + n)) g (set_small n (below case h))
+  where
+    below : (case : Case) → n < set_count case → n < 4
+    below One h = omega (arith, h)
+    below Two h = h
 
 -- a share by the code and its unit, 1 or j
 share_sent : (d : ℕ → Complex) (i : ℕ) (u : Complex) (m : ModulatedCode) → T (sends i u m) → share_of d m ≡ (d i ⊗ conj u).re
@@ -106,13 +114,10 @@ module _ (d : ℕ → Complex) (case n : ℕ) (h : case < 3) (g : n < 2 * case) 
   abbrev set : CodeSet
   set = code_set (1 + n)
 
-  abbrev score_at : ℕ → ℤ
-  score_at k = shares_of d (codes case (32 * n + k))
-
-  -- row q, whose candidates begin at x
-  pub row_of_set : (q x : ℕ) → q < 4 → x ≡ 8 * q → Leads (λ k. score_at (x + k)) 8 (leader_in_row case d (allocation_row q set))
+  -- row q
+  pub row_of_set : (q : ℕ) → q < 4 → Leads (λ k. shares_of d (codes case (32 * n + 8 * q + k))) 8 (leader_in_row case d (allocation_row q set))
   unfolding row_sends
-  row_of_set q x l e =
+  row_of_set q l =
       let o = codes case (8 * (4 * n + q)) in
       let w = allocation_row q set in
       let a = and_yes (sends w.first w.unit o.first) _ (each_at 4 (row_sends case n) (each_at (2 * case) (λ n. each 4 (row_sends case n)) (each_at 3 (λ case. each (2 * case) (λ n. each 4 (row_sends case n))) sets_test case h) n g) q l) in
@@ -120,22 +125,7 @@ module _ (d : ℕ → Complex) (case n : ℕ) (h : case < 3) (g : n < 2 * case) 
       let first_is = share_sent d w.first w.unit o.first a.0 in
       let second_is = share_sent d w.second w.unit o.second b.0 in
       let marker-is = share_sent d w.marker 𝟏 o.marker b.1 ∙ by_one (d w.marker) in
-      leads_cong (λ k. shares_of d (codes case (8 * (4 * n + q) + k))) (λ k. score_at (x + k)) 8 _ (λ k _. ap (λ (j : ℕ). shares_of d (codes case j)) (place k))
+      let place : 8 * (4 * n + q) ≡ 32 * n + 8 * q = omega arith in
+      subst (λ (x : ℕ). Leads (λ k. shares_of d (codes case (x + k))) 8 (leader_in_row case d w)) place
       (subst (Leads (λ k. shares_of d (codes case (8 * (4 * n + q) + k))) 8) (λ i. leader_of_row case (leader_of_signs (first_is i)) (leader_of_signs (second_is i)) (leader_of_signs (marker-is i)))
       (row_leads d case (4 * n + q) h (omega arith)))
-    where
-      place : (k : ℕ) → 8 * (4 * n + q) + k ≡ 32 * n + (x + k)
-      place k = omega (arith, e)
-
-  abbrev in_row : ℕ → Leader
-  in_row q = leader_in_row case d (allocation_row q set)
-
-  pub set_leads : Leads score_at 32 (leader_or_later (leader_or_later (leader_or_later (in_row 0) 8 (in_row 1)) 16 (in_row 2)) 24 (in_row 3))
-  set_leads =
-      leads_or_later 24 8 score_at _ _
-      (leads_or_later 16 8 score_at _ _
-      (leads_or_later 8 8 score_at _ _
-      (leads_cong (λ k. score_at (0 + k)) score_at 8 _ (λ k _. ap score_at (zero-add k)) (row_of_set 0 0 (lit< tt) refl))
-      (row_of_set 1 8 (lit< tt) refl))
-      (row_of_set 2 16 (lit< tt) refl))
-      (row_of_set 3 24 (lit< tt) refl)

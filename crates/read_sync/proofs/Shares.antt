@@ -1,5 +1,5 @@
 -- What the codes of an allocation add to a score is the share of the definition, and how large it can be. Assumes nothing.
-use mathlib.Core.Path.{◌≡◌, ap, ◌∙◌, subst}
+use mathlib.Core.Path.{◌≡◌, ap, ◌∙◌}
 use mathlib.Core.List.{List}
 use Prim.Native.Nat.{ℕ}
 use mathlib.Core.Bool.{Bool, true, false, cond}
@@ -22,7 +22,7 @@ use Rattle.codes.proofs.Allocations.{Known, allocation_known}
 use Rattle.analyser_parts.specs.Correlation.{P, S}
 use Rattle.analyser_parts.specs.PartSums.{correlated, part_sums}
 use Rattle.analyser_parts.proofs.Bounds.{signed_sum_within}
-use Rattle.analyser_parts.proofs.Correlations.{one_minus_j_within, primary_is, secondary_is}
+use Rattle.analyser_parts.proofs.Correlations.{one_minus_j_within, secondary_is}
 use Rattle.read_sync.specs.SyncReading.{candidate, score, candidate_codes, share}
 use Rattle.read_sync.specs.Shares.{product, share_of, shares_of}
 
@@ -60,9 +60,6 @@ parts_bound h row = bound_listed 1600000 16 _ (λ m. signed_sum_within h _ _)
 pub correlated_within : {re im : List ℤ} → Bound 1600000 re → Bound 1600000 im → (signs : ℕ) → Both 51200000 (correlated re im signs)
 unfolding correlated
 correlated_within h g signs = one_minus_j_within (record { re = signed_sum_within h _ _; im = signed_sum_within g _ _ })
-
-pub P_within : (re im : List ℤ) → Bound 100000 re → Bound 100000 im → Both 51200000 (P (value re im))
-P_within re im h g = subst (Both 51200000) (primary_is re im) (correlated_within (parts_bound h _) (parts_bound g _) _)
 
 pub product_within : {re im : List ℤ} {p : Complex} → Bound 1600000 re → Bound 1600000 im → Both 51200000 p → (i : ℕ) → Both 5242880000000000 (product re im p i)
 unfolding product 𝟎

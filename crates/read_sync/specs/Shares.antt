@@ -8,9 +8,13 @@ use Rattle.codes.specs.SyncCodes.{is_sync_code}
 use Rattle.codes.specs.PackedSigns.{secondary_row, sign_bit}
 use Rattle.analyser_parts.specs.PartSums.{correlated}
 
+-- the sum of n entries from `from` on, with the signs of a row from `at` on
+abbrev pub sum_with_signs : ℕ → List ℤ → ℕ → ℕ → ℕ → ℤ
+sum_with_signs n x from row at = Σℤ< n (λ i. sign_bit row (at + i) *ℤ get_or x (from + i) (pos 0))
+
 -- the sum of eight entries from `from` on, with the signs of a row from `at` on
 unfoldable pub half_sum : List ℤ → ℕ → ℕ → ℕ → ℤ
-half_sum x from row at = Σℤ< 8 (λ i. sign_bit row (at + i) *ℤ get_or x (from + i) (pos 0))
+half_sum x from row at = sum_with_signs 8 x from row at
 
 -- the correlation with secondary code i times the conjugate of p, from the sums of the parts against b; 0 where no code has the number
 unfoldable pub product : List ℤ → List ℤ → Complex → ℕ → Complex

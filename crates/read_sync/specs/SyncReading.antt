@@ -3,7 +3,7 @@ use Rattle.std.specs.Prelude.{ℤ, ◌+ℤ◌, ℕ, ◌+◌, ◌/◌, ◌%◌, �
 use Rattle.complex.specs.declared.Complex.{Complex}
 use Rattle.complex.specs.Arithmetic.{◌⊗◌, conj}
 use Rattle.complex.specs.Buffers.{value}
-use Rattle.codes.specs.Refusals.{Answer, refused, gives, Refusal, ◌if◌, ◌otherwise◌}
+use Rattle.codes.specs.Refusals.{Answer, RefusalRule, ◌if◌, ◌otherwise◌}
 use Rattle.codes.specs.declared.ModulatedCode.{ModulatedCode}
 use Rattle.codes.specs.declared.Allocated.{Allocated}
 use Rattle.codes.specs.Allocation.{allocation, one_or_two}
@@ -11,8 +11,6 @@ use Rattle.analyser_parts.specs.Choice.{smallest, beats_others}
 use Rattle.analyser_parts.specs.Components.{outside}
 use Rattle.analyser_parts.specs.Correlation.{S, P}
 use Rattle.read_sync.specs.declared.Candidate.{Candidate}
-use Rattle.read_sync.specs.declared.SyncAnswer.{SyncAnswer}
-use Rattle.read_sync.specs.declared.SyncAnswer.TheVariants.{Burst, Refused}
 
 -- a candidate: a group, a frame and a half
 abbrev pub candidate_for : ℕ → ℕ → ℕ → Candidate
@@ -49,7 +47,7 @@ abbrev pub sync_length : ℕ
 sync_length = 256
 
 -- Refuses 14; 12; 16 length not 256; 17; 19 where no candidate beats all others, and only there.
-abbrev pub read_sync_refusals : ℕ → List ℤ → List ℤ → List Refusal
+abbrev pub read_sync_refusals : ℕ → List ℤ → List ℤ → List RefusalRule
 read_sync_refusals case re im =
     14 if not (one_or_two case) ∷
     12 if not (eqb (length re) (length im)) ∷
@@ -59,8 +57,3 @@ read_sync_refusals case re im =
 
 abbrev pub read_sync_call : ℕ → List ℤ → List ℤ → Answer Candidate
 read_sync_call case re im = read_sync_refusals case re im otherwise candidate case (winner case (value re im))
-
--- ---- document 01's number and values for each case of the answer
-abbrev pub answer_of_read_sync : SyncAnswer → Answer Candidate
-answer_of_read_sync (Burst c) = gives c
-answer_of_read_sync (Refused n) = refused n

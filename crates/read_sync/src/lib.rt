@@ -3,10 +3,15 @@
 #![tactic(auto)]
 
 ghost use Rattle.std.specs.Prelude.{◌≡◌};
-ghost use Rattle.read_sync.specs.SyncReading.{read_sync_call, answer_of_read_sync};
+ghost use Rattle.codes.specs.Answers.{answer_of};
+ghost use Rattle.read_sync.specs.SyncReading.{read_sync_call};
 
+use case::Case;
 use codes::CodeGroup;
+use codes::refusal::Refusal;
+use sync_reading::Chips;
 
+mod case;
 mod sums;
 mod sync_reading;
 
@@ -18,26 +23,17 @@ pub struct Candidate {
     pub half: u32,
 }
 
-#[derive(Clone, Copy)]
-pub enum SyncAnswer {
-    Burst(Candidate),
-    Refused(u32),
-}
-
 // What the sync burst in 256 chips was sent for in a case, 1 or 2.
 // Refuses 14 case not 1 or 2; 12 re and im differ in length; 16 length not 256; 17 a component outside -100000 to 100000;
 // 19 where no candidate beats all others.
-pub fn read_sync(case: u32, re: &[i32], im: &[i32]) -> SyncAnswer
-    ensures { answer_of_read_sync result ≡ read_sync_call case re.now im.now }
+pub fn read_sync(case: u32, re: &[i32], im: &[i32]) -> Result<Candidate, Refusal>
+    ensures { answer_of result ≡ read_sync_call case re.now im.now }
 {
-    let number = sync_reading::refusal(case, re, im);
-    if number != 0 {
-        return SyncAnswer::Refused(number);
-    }
-    let leader = sync_reading::lead(case, re, im);
+    let case = Case::new(case)?;
+    let leader = Chips::new(re, im)?.leader(case);
     if leader.alone {
-        SyncAnswer::Burst(sync_reading::candidate(case, leader.at))
+        Ok(case.candidate(leader.at))
     } else {
-        SyncAnswer::Refused(19)
+        Err(Refusal::NoBestFit)
     }
 }

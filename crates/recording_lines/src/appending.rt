@@ -1,75 +1,59 @@
 // Chips of one's own, and silence, to the end of the recording.
+ghost use Rattle.std.specs.Prelude.{◌≡◌, OnErr};
+
+use crate::Recording;
+use complex::Complex;
 use script::answer::LineAnswer;
-use script::arguments::Chip;
+use script::arguments::Arguments;
 use script::faults::Fault;
-use script::memory::{Memory, READINGS, fits};
-use script::{arguments, memory};
-use text::words;
+use script::memory::{Memory, RECORDING, fits};
 
-// Where the chips of a line ended; or what is wrong.
-#[derive(Drop)]
-struct Kept {
-    fault: Fault,
-    to: usize,
-}
+impl Recording {
+    pub fn record<'a>(
+        &mut self,
+        chips: Arguments<'a>,
+        m: &mut Memory,
+    ) -> Result<LineAnswer, Fault<'a>>
+        ensures { OnErr result (self.new ≡ self.old) }
+    {
+        let count = self.put(chips, m)?;
+        if count == 0 {
+            return Err(Fault::Missing);
+        }
+        self.grow(count)
+    }
 
-// Puts the chips of a line after the first `chips` ones.
-fn keep(line: &[u8], chips: usize, m: &mut Memory) -> Kept {
-    let mut at = words::next(line, 0).to;
-    let mut k = chips;
-    let mut fault = Fault::None;
-    while k < READINGS {
-        match arguments::next_chip(line, at) {
-            Chip::End => {
-                break;
-            }
-            Chip::Not(f) => {
-                fault = f;
-                break;
-            }
-            Chip::Is(re, im, rest) => {
-                memory::put(m, k, re, im);
-                at = rest;
+    // Puts the chips of a line behind the recording's last one, and answers how many there are. By their places, which say where the room ends.
+    fn put<'a>(&self, mut chips: Arguments<'a>, m: &mut Memory) -> Result<usize, Fault<'a>> {
+        for place in self.chips..RECORDING {
+            match chips.chip()? {
+                Some(z) => m.recording.set(place, z),
+                None => return Ok(place - self.chips),
             }
         }
-        k += 1;
+        Ok(RECORDING.saturating_sub(self.chips))
     }
-    Kept { fault, to: k }
-}
 
-pub fn record(line: &[u8], chips: usize, m: &mut Memory) -> LineAnswer {
-    let kept = keep(line, chips, m);
-    let fault = kept.fault;
-    let count = std::num::wrapping_sub_usize(kept.to, chips);
-    match fault {
-        Fault::None => recorded(chips, count),
-        _ => LineAnswer::Wrong(fault),
+    pub fn silence<'a>(&mut self, count: usize, m: &mut Memory) -> Result<LineAnswer, Fault<'a>>
+        ensures { OnErr result (self.new ≡ self.old) }
+    {
+        let from = self.chips;
+        let answer = self.grow(count)?;
+        // By the place, for a chip is two entries that the memory has apart.
+        for place in from..self.chips {
+            m.recording.set(place, Complex::ZERO);
+        }
+        Ok(answer)
     }
-}
 
-// So many chips stand behind the recording's last one: they are part of it now, or there are none, or they do not fit.
-fn recorded(chips: usize, count: usize) -> LineAnswer {
-    if count == 0 {
-        return LineAnswer::Wrong(Fault::Missing);
-    }
-    if fits(chips, count) {
-        return LineAnswer::Recorded(count);
-    }
-    LineAnswer::Wrong(Fault::Full(count))
-}
-
-pub fn silence(count: u32, chips: usize, m: &mut Memory) -> LineAnswer {
-    let more = count as usize;
-    if !fits(chips, more) {
-        return LineAnswer::Wrong(Fault::Full(more));
-    }
-    zeros(m, chips, std::num::wrapping_add_usize(chips, more));
-    LineAnswer::Recorded(more)
-}
-
-// Puts 0 at each place from `from` on and before `to`.
-fn zeros(m: &mut Memory, from: usize, to: usize) {
-    for i in from..to {
-        memory::put(m, i, 0, 0);
+    // So many chips more are part of the recording, where they fit.
+    fn grow<'a>(&mut self, count: usize) -> Result<LineAnswer, Fault<'a>>
+        ensures { OnErr result (self.new ≡ self.old) }
+    {
+        if !fits(self.chips, count) {
+            return Err(Fault::Full(count));
+        }
+        self.chips += count;
+        Ok(LineAnswer::Done)
     }
 }

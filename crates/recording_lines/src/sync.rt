@@ -1,31 +1,22 @@
 // Read sync and find in a part of the recording.
-use find::FindAnswer;
-use read_sync::SyncAnswer;
+use find::Peak;
+use read_sync::Candidate;
 use script::answer::LineAnswer;
-use script::memory;
+use script::faults::Fault;
 use script::memory::Memory;
-use text::complement::not_negative_wide;
+use std::ops::Range;
 
-pub fn read_sync(case: u32, from: usize, count: usize, m: &Memory) -> LineAnswer {
-    let re = memory::part(m, from, count);
-    let im = memory::im_part(m, from, count);
-    match read_sync::read_sync(case, re, im) {
-        SyncAnswer::Burst(c) => {
-            let group = c.group;
-            LineAnswer::Burst(group.0, c.frame, c.half)
-        }
-        SyncAnswer::Refused(number) => LineAnswer::Refused(number),
-    }
+pub fn read_sync<'a>(case: u32, places: Range<usize>, m: &Memory) -> Result<LineAnswer, Fault<'a>> {
+    let (re, im) = m.recording.range(places).ok_or(Fault::Outside)?;
+    let Candidate { group, frame, half } = read_sync::read_sync(case, re, im)?;
+    Ok(LineAnswer::Burst { group, frame, half })
 }
 
 // Find takes at most 5,120 chips, and 15 entries fewer for each scratch buffer.
-pub fn find(from: usize, count: usize, m: &Memory) -> LineAnswer {
-    let mut sumre = [0i32; 5105];
-    let mut sumim = [0i32; 5105];
-    let re = memory::part(m, from, count);
-    let im = memory::im_part(m, from, count);
-    match find::find(re, im, &mut sumre, &mut sumim) {
-        FindAnswer::Found(p) => LineAnswer::Peak(p.start, not_negative_wide(p.size)),
-        FindAnswer::Refused(number) => LineAnswer::Refused(number),
-    }
+pub fn find<'a>(places: Range<usize>, m: &Memory) -> Result<LineAnswer, Fault<'a>> {
+    let mut sumre = [0; 5105];
+    let mut sumim = [0; 5105];
+    let (re, im) = m.recording.range(places).ok_or(Fault::Outside)?;
+    let Peak { start, size } = find::find(re, im, &mut sumre, &mut sumim)?;
+    Ok(LineAnswer::Peak { start, size })
 }

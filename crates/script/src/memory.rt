@@ -1,63 +1,100 @@
-// The numbers that the lines of a script are about, in one array: re components, and PLANE places further on the im components that belong to them.
-// At 0 the recording begins, at READINGS what the last accepted read gave, at LINE the values of the line that is being answered.
-ghost use Rattle.std.specs.Prelude.{◌≡◌};
+// The numbers that the lines of a script are about.
+ghost use Rattle.std.specs.Prelude.{◌≡◌, ◌<◌, ◌≤◌, ◌-◌, ◌↔◌, IsSome, IfSome, set, take, drop};
+ghost use Rattle.complex.specs.Buffers.{value};
 ghost use Rattle.script.specs.Room.{fit};
+
+use complex::Complex;
+use std::ops::Range;
 
 // How many chips a recording holds.
 pub const CHIPS: usize = 38400;
 
-// Past the chips of a full recording there is room for those of one line, at most 16,384, or of one draw: they are put there first,
+// Past the chips of a full recording there is room for those of one line, at most 16,384: they are put there first,
 // and counted once it is known that they fit.
-pub const READINGS: usize = 54784;
+pub const RECORDING: usize = 54784;
 
 // The most readings that a read gives.
-pub const MOST_READINGS: usize = 1104;
+pub const READINGS: usize = 1104;
 
-pub const LINE: usize = 55888;
+// The most chips that a code has.
+pub const CODE: usize = 256;
 
 // A line has at most two bits for each reading.
-pub const PLANE: usize = 58096;
+pub const BITS: usize = 2208;
 
-pub const SIZE: usize = 116192;
-
-pub type Memory = [i32; SIZE];
-
-// `count` entries of s from `at` on; none where there are not so many.
-pub fn part(s: &[i32], at: usize, count: usize) -> &[i32] {
-    if at > s.len() {
-        return &s[0..0];
-    }
-    if count > s.len() - at {
-        return &s[0..0];
-    }
-    let end = at + count;
-    &s[at..end]
+// Re and im components in arrays of their own, as the analyser takes them.
+#[derive(Clone, Copy)]
+pub struct Values<const N: usize> {
+    pub re: [i32; N],
+    pub im: [i32; N],
 }
 
-// The im components of the same places.
-pub fn im_part(s: &[i32], at: usize, count: usize) -> &[i32] {
-    part(s, std::num::wrapping_add_usize(at, PLANE), count)
-}
+impl<const N: usize> Values<N> {
+    pub fn zero() -> Values<N> {
+        Values {
+            re: [0; N],
+            im: [0; N],
+        }
+    }
 
-// Puts a value at place `at`, where there is such a place.
-pub fn put(m: &mut Memory, at: usize, re: i32, im: i32) {
-    if at < PLANE {
-        m[at] = re;
-        m[PLANE + at] = im;
+    pub fn get(&self, i: usize) -> Option<Complex>
+        ensures some { IsSome result ↔ (i < N) }
+        ensures value { IfSome result (λ z. z ≡ value self.now.re self.now.im i) }
+    {
+        Some(Complex {
+            re: *self.re.get(i)?,
+            im: *self.im.get(i)?,
+        })
+    }
+
+    // Sets the value at place i, where there is such a place.
+    pub fn set(&mut self, i: usize, z: Complex)
+        ensures re { self.new.re ≡ set self.old.re i z.re }
+        ensures im { self.new.im ≡ set self.old.im i z.im }
+    {
+        if i < N {
+            self.re[i] = z.re;
+            self.im[i] = z.im;
+        }
+    }
+
+    // The re and im components of a range of places, where there are all of these.
+    pub fn range(&self, places: Range<usize>) -> Option<(&[i32], &[i32])>
+        ensures some { IsSome result ↔ ((places.start ≤ places.end) × (places.end ≤ N)) }
+        ensures re { IfSome result (λ p. p.0.now ≡ take (places.end - places.start) (drop places.start self.now.re)) }
+        ensures im { IfSome result (λ p. p.1.now ≡ take (places.end - places.start) (drop places.start self.now.im)) }
+    {
+        let (from, to) = (places.start, places.end);
+        Some((self.re.get(from..to)?, self.im.get(from..to)?))
     }
 }
 
-// Entry i; 0 past the end.
-pub fn entry(m: &Memory, i: usize) -> i32 {
-    if i < SIZE { m[i] } else { 0 }
+// No heap: it stands on the stack of the run, which lends it to each line.
+#[derive(Clone, Copy)]
+pub struct Memory {
+    pub recording: Values<RECORDING>,
+    // What the last accepted read gave.
+    pub readings: Values<READINGS>,
+    // The whole code that a line tells.
+    pub code: Values<CODE>,
+    // The hard bits that a line tells.
+    pub bits: [u8; BITS],
+}
+
+impl Memory {
+    pub fn zero() -> Memory {
+        Memory {
+            recording: Values::zero(),
+            readings: Values::zero(),
+            code: Values::zero(),
+            bits: [0; BITS],
+        }
+    }
 }
 
 // Whether so many more chips fit into a recording.
 pub fn fits(chips: usize, count: usize) -> bool
     ensures { result ≡ fit chips count }
 {
-    if count > CHIPS {
-        return false;
-    }
-    chips <= CHIPS - count
+    count <= CHIPS && chips <= CHIPS - count
 }

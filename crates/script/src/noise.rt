@@ -1,90 +1,72 @@
 // Noise on a part of the recording, from a generator whose rule docs/TDD.md has in full.
-use crate::answer::LineAnswer;
+ghost use Rattle.std.specs.Prelude.{◌≡◌, ◌+◌, ◌*◌, ◌%◌, OnErr};
+
+use crate::commands::Part;
 use crate::faults::Fault;
-use crate::memory;
-use crate::memory::{Memory, PLANE};
-use text::complement::{signed, word};
+use crate::memory::Memory;
+use complex::Complex;
 
-// Adds noise to `count` chips from `from` on, or to none where one of the sums leaves 32 bits.
-pub fn add(from: usize, count: usize, seed: u32, size: u32, m: &mut Memory) -> LineAnswer {
-    let end = std::num::wrapping_add_usize(from, count);
-    let past = first_past(m, from, end, seed, size);
-    if past < end {
-        return LineAnswer::Wrong(Fault::Past(past));
-    }
-    add_all(m, from, end, seed, size);
-    LineAnswer::Done
+#[derive(Clone, Copy)]
+pub struct Generator {
+    pub state: u32,
 }
 
-// The first chip from `from` on and before `end` whose sums leave 32 bits, or else `end`.
-fn first_past(m: &Memory, from: usize, end: usize, seed: u32, size: u32) -> usize {
-    let mut state = seed;
-    for i in from..end {
-        let z = with_noise(m, i, state, size);
-        if z.past {
-            return i;
+impl Generator {
+    pub fn new(seed: u32) -> Generator {
+        Generator { state: seed }
+    }
+
+    // The generator's next state.
+    pub fn next_u32(&mut self) -> u32
+        ensures state { self.new.state ≡ (self.old.state * 1664525 + 1013904223) % 4294967296 }
+        ensures result { result ≡ self.new.state }
+    {
+        self.state = self.state.wrapping_mul(1664525).wrapping_add(1013904223);
+        self.state
+    }
+
+    // A number from -size to size; a size above LOUDEST counts as that.
+    fn noise(&mut self, size: u32) -> i32 {
+        let most = size.min(LOUDEST);
+        (self.next_u32() / 256 % (2 * most + 1)) as i32 - most as i32
+    }
+
+    // A value with noise on it, where that fits 32 bits.
+    fn noisy(&mut self, z: Complex, size: u32) -> Option<Complex> {
+        let re = z.re.checked_add(self.noise(size))?;
+        let im = z.im.checked_add(self.noise(size))?;
+        Some(Complex { re, im })
+    }
+}
+
+// The most noise that a chip can get.
+pub const LOUDEST: u32 = 100_000;
+
+// Adds noise to a part of a recording of so many chips, or to no chip where one of the sums leaves 32 bits.
+pub fn add<'a>(
+    part: Part,
+    chips: usize,
+    seed: u32,
+    size: u32,
+    m: &mut Memory,
+) -> Result<(), Fault<'a>>
+    ensures { OnErr result (m.new ≡ m.old) }
+{
+    if size > LOUDEST {
+        return Err(Fault::Loud(size));
+    }
+    let mut trial = Generator::new(seed);
+    for i in part.within(chips)? {
+        let z = m.recording.get(i).ok_or(Fault::Outside)?;
+        trial.noisy(z, size).ok_or(Fault::Past(i))?;
+    }
+    let mut generator = Generator::new(seed);
+    for i in part.within(chips)? {
+        if let Some(z) = m.recording.get(i) {
+            if let Some(noisy) = generator.noisy(z, size) {
+                m.recording.set(i, noisy);
+            }
         }
-        state = z.state;
     }
-    end
-}
-
-fn add_all(m: &mut Memory, from: usize, end: usize, seed: u32, size: u32) {
-    let mut state = seed;
-    for i in from..end {
-        let z = with_noise(m, i, state, size);
-        memory::put(m, i, z.re, z.im);
-        state = z.state;
-    }
-}
-
-// A chip with noise on it, whether that leaves 32 bits, and the generator's state after it.
-#[derive(Drop)]
-struct Noisy {
-    re: i32,
-    im: i32,
-    past: bool,
-    state: u32,
-}
-
-fn with_noise(m: &Memory, i: usize, state: u32, size: u32) -> Noisy {
-    let one = next(state);
-    let two = next(one);
-    let re = added(memory::entry(m, i), value(one, size));
-    let im = added(
-        memory::entry(m, std::num::wrapping_add_usize(PLANE, i)),
-        value(two, size),
-    );
-    Noisy {
-        re: re.value,
-        im: im.value,
-        past: re.past || im.past,
-        state: two,
-    }
-}
-
-// The generator's next state.
-pub fn next(state: u32) -> u32 {
-    ((state as u64 * 1664525 + 1013904223) % 4294967296) as u32
-}
-
-// The number of a state, from -size to size. A size is at most 100,000, so that the remainder changes none.
-fn value(state: u32, size: u32) -> i32 {
-    let most = size % 100001;
-    signed(std::num::wrapping_sub_u32(state / 256 % (2 * most + 1), most))
-}
-
-// A sum modulo 2^32, and whether it is another number than the sum itself.
-#[derive(Drop)]
-struct Sum {
-    value: i32,
-    past: bool,
-}
-
-fn added(x: i32, y: i32) -> Sum {
-    let value = signed(std::num::wrapping_add_u32(word(x), word(y)));
-    Sum {
-        value,
-        past: if y < 0 { value > x } else { value < x },
-    }
+    Ok(())
 }

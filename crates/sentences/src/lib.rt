@@ -1,18 +1,23 @@
-// The answers that are one sentence, the words of the refusals, and the call that a word is near to.
+// What is told where a line is not done: the words of a fault and of a refusal, and the call that a word is near to.
 #![tactic(auto)]
 
-use recording_lines::Recording;
-use script::forms::Form;
+use std::fmt;
 
-pub mod filled;
-pub mod nearest;
+pub mod faults;
+mod nearest;
 pub mod refusals;
-pub mod sentence;
 
-// Where an answer is due: the line's number in the script, its form, and the recording that it found.
+// What an answer's words speak of: the line, its number in the script, how many chips the recording had before it, and whether refusals and long lines are told in brief.
 #[derive(Clone, Copy)]
-pub struct Context {
+pub struct Context<'a> {
     pub at: u64,
-    pub form: Form,
-    pub recording: Recording,
+    pub line: &'a [u8],
+    pub chips: usize,
+    pub brief: bool,
+}
+
+impl fmt::Display for Context<'_> {
+    fn fmt<W: fmt::Write>(&self, f: &mut fmt::Formatter<W>) -> fmt::Result {
+        write!(f, "line {}", self.at)
+    }
 }

@@ -1,15 +1,10 @@
 // The words of the refusals.
-use text::answers::Answers;
-use text::numbers::Natural;
-use text::words::Word;
-use text::{answers, lines, numbers, words};
+use codes::refusal::Refusal;
+use text::numbers::to_natural;
+use text::words::Words;
 
-// Writes the words of a refusal of this call, from their colon on; of number 0, which is no refusal, the whole table. In the table a row with calls behind its number is for them alone.
-pub fn print(out: &mut Answers, n: usize, number: u64, call: &[u8]) -> usize {
-    of_table(
-        out,
-        n,
-        b"1: the cell parameter is above 127, or the code group above 31
+// What `refusals` prints. A row with calls behind its number is for them alone.
+pub const TABLE: &str = "1: the cell parameter is above 127, or the code group above 31
 2: the burst type is not 1, 2 or 3
 3: the spreading factor is not 1, 2, 4, 8 or 16
 4: the code's index is not below its spreading factor
@@ -34,71 +29,28 @@ pub fn print(out: &mut Answers, n: usize, number: u64, call: &[u8]) -> usize {
 17: a component is outside -100000 to 100000
 18: an answer or scratch buffer is too short
 19: no group, frame and half fits the burst better than all others
-",
-        number,
-        call,
-    )
-}
+";
 
-fn of_table(out: &mut Answers, n: usize, table: &[u8], number: u64, call: &[u8]) -> usize {
-    if number == 0 {
-        return answers::text(out, n, table);
+// The words of a refusal of this call, from their colon on.
+pub fn words(refusal: Refusal, call: &[u8]) -> &'static str {
+    for row in TABLE.lines() {
+        if let Some(colon) = row.find(':') {
+            if applies(&row.as_bytes()[..colon], refusal, call) {
+                return row.get(colon..).unwrap_or("");
+            }
+        }
     }
-    let w = found(table, number, call);
-    answers::text(out, n, words::part(table, w.from, w.to))
+    ""
 }
 
-// Where the table has the words of a refusal of this call, from their colon on.
-fn found(table: &[u8], number: u64, call: &[u8]) -> Word {
-    let mut at: usize = 0;
-    while at < table.len() {
-        let to = lines::line_end(table, at, table.len());
-        if to < at {
-            break;
-        }
-        if to >= table.len() {
-            break;
-        }
-        let row = words::part(table, at, to);
-        let colon = words::index(row, 0, b':');
-        if applies(words::part(row, 0, colon), number, call) {
-            return Word {
-                from: std::num::wrapping_add_usize(at, colon),
-                to,
-            };
-        }
-        at = to + 1;
-    }
-    Word { from: 0, to: 0 }
-}
-
-// Whether a row is for this number and this call: it has the number, and the call or none.
-fn applies(row: &[u8], number: u64, call: &[u8]) -> bool {
-    let w = words::next(row, 0);
-    if !is_number(words::part(row, w.from, w.to), number) {
+// Whether a row's begin is for this refusal and this call: it has the number, and the call or none.
+fn applies(begin: &[u8], refusal: Refusal, call: &[u8]) -> bool {
+    let mut words = Words::new(begin);
+    if words.next().and_then(to_natural) != Some(refusal.number()) {
         return false;
     }
-    let calls = words::part(row, w.to, row.len());
-    calls.len() == 0 || has_word(calls, call)
-}
-
-fn is_number(w: &[u8], number: u64) -> bool {
-    match numbers::to_natural(w) {
-        Natural::Is(x) => x as u64 == number,
-        Natural::Bad => false,
+    match words.next() {
+        None => true,
+        Some(first) => first == call || words.any(|word| word == call),
     }
-}
-
-fn has_word(s: &[u8], word: &[u8]) -> bool {
-    let mut at: usize = 0;
-    let mut turns = s.len();
-    while turns > 0 {
-        turns -= 1;
-        let w = words::next(s, at);
-        if words::same(words::part(s, w.from, w.to), word) {
-            return true;
-        }
-        at = w.to;
-    }
-    false
 }

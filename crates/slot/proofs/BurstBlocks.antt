@@ -10,14 +10,14 @@ use native.Mathlib.Omega.{arith}
 use borrow.Author.Tests.{eq-eqb, ne_eqb, le-leb, lt-leb, lt-ltb, leb-false}
 use mir.Facts.{and_yes}
 use lib.Dec.{T, eqb, leb, leb→le, ltb, ltb→lt, lit≤}
+use Rattle.complex.specs.Buffers.{block_of}
 use Rattle.complex.specs.Arithmetic.{𝟎}
 use Rattle.complex.specs.Fits.{Both}
 use Rattle.complex.proofs.Components.{both_more}
 use Rattle.codes.specs.Scrambling.{code_group}
 use Rattle.codes.specs.Burst.{burst, burst_start}
 use Rattle.codes.proofs.Tests.{neither}
-use Rattle.modulation.specs.SixteenChips.{block_of}
-use Rattle.modulation.proofs.Blocks.{block_cong}
+use Rattle.complex.proofs.Blocks.{block_cong}
 use Rattle.modulation.proofs.BurstParts.{burst_both}
 use Rattle.slot.specs.declared.Sync.{Sync}
 use Rattle.slot.specs.Setup.{SyncSetup}

@@ -12,12 +12,12 @@ use lib.IntN.{ℤ, pos, ◌+ℤ◌}
 use lib.ListN.{get_or}
 use Rattle.complex.specs.Arithmetic.{𝟎, ◌⊕◌, ◌⊗◌}
 use Rattle.complex.specs.declared.Complex.{Complex}
-use Rattle.complex.specs.Buffers.{listed, value}
+use Rattle.complex.specs.Buffers.{block_of, listed, value}
 use Rattle.complex.proofs.Lists.{value_in_buffers, listed_at, listed_cong}
 use Rattle.complex.proofs.Ring.{⊕-𝟎}
 use Rattle.codes.specs.Scrambling.{scrambling_element}
-use Rattle.modulation.specs.declared.Block.{Block}
-use Rattle.modulation.specs.SixteenChips.{block_of, scrambling_signs, summed_component, block_chip}
+use Rattle.complex.specs.declared.Block.{Block}
+use Rattle.modulation.specs.SixteenChips.{scrambling_signs, summed_component, block_chip}
 use Rattle.modulation.proofs.ScramblingSigns.{scrambled_chip}
 use Rattle.slot.specs.declared.Settings.{Settings}
 use Rattle.slot.specs.Slot.{data_chip_count, data_chip, sync_chip, field_chip}

@@ -2,3 +2,4 @@ pub mod Setup
 pub mod Slot
 pub mod View
 pub mod FieldBlocks
+pub mod Sent

@@ -4,7 +4,6 @@ use Rattle.std.proofs.Math.Option.{Option, none, some}
 use Rattle.complex.specs.Buffers.{listed}
 use Rattle.codes.specs.Tree.{is_code, width}
 use Rattle.modulation.specs.Nodes.{node}
-use Rattle.codes.specs.declared.CellParameter.{CellParameter}
 use Rattle.slot.specs.declared.Settings.{Settings}
 use Rattle.slot.specs.declared.Sync.{Sync}
 use Rattle.slot.specs.Setup.{ChannelSetup, SyncSetup, Setup}
@@ -37,7 +36,3 @@ view_channel s Q k =
 
 unfoldable pub view : Settings → Setup
 view s = record { cell = s.cell.0; type = s.kind; channel = view_channel s; sync = view_sync s.cell.0 s.sync }
-
--- settings, from their fields
-abbrev pub settings_of : CellParameter → ℕ → List ℕ → List ℕ → Sync → Settings
-settings_of cell kind gains pairs sync = record { cell = cell; kind = kind; gains = gains; pairs = pairs; sync = sync }

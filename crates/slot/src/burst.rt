@@ -1,13 +1,14 @@
 // The sync burst where it falls in the slot.
 ghost use Rattle.std.specs.Prelude.{◌≡◌, ◌+◌, ◌%◌};
+ghost use Rattle.complex.specs.Buffers.{block_of};
 ghost use Rattle.complex.specs.Fits.{Bound};
-ghost use Rattle.modulation.specs.SixteenChips.{block_of};
 ghost use Rattle.slot.specs.Slot.{burst_falls_on, sync_chip};
 ghost use Rattle.slot.specs.View.{view_sync};
 
 use crate::Sync;
 use codes::{CellParameter, burst, scrambling};
-use modulation::{Block, burst as parts};
+use complex::Block;
+use modulation::burst as parts;
 
 // Whether a cell's burst falls on chip x of the slot.
 pub fn falls(cell: CellParameter, y: Sync, x: usize) -> bool

@@ -15,14 +15,14 @@ fn lengths(field1: usize, midamble: usize, field2: usize, guard: usize) -> Parts
     ensures { result ≡ lengths field1 midamble field2 guard }
 {
     Parts {
-        field1: field1,
-        midamble: midamble,
-        field2: field2,
-        guard: guard,
+        field1,
+        midamble,
+        field2,
+        guard,
     }
 }
 
-// The parts of a burst type, 1, 2 or 3; any other has no field.
+// The parts of a burst type, 1, 2 or 3; any other, which a C struct of settings can hold, has no field.
 pub fn parts_of(kind: u32) -> Parts
     ensures { result ≡ slot_parts kind }
 {

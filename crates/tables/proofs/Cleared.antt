@@ -21,7 +21,7 @@ use Rattle.modulation.specs.Nodes.{node, open_at}
 use Rattle.tables.specs.Bits.{is_entry_of, pair_of_entry, pairs_with_bits}
 use Rattle.tables.specs.OpenCodes.{is_leaf_open, some_over}
 use Rattle.tables.specs.PairChanges.{cleared, with_open_cleared}
-use Rattle.tables.proofs.Blocks.{Code}
+use Rattle.tables.proofs.Blocks.{IsCode}
 
 -- ---- the leaves below open codes
 -- among the codes that have leaf l is the one whose gain stands at n
@@ -118,7 +118,7 @@ module _ (g p : List ℕ) where
           (λ i l. one_cleared i (omega (arith, all_written)) ∙ rw (none_at 16 (is_leaf_open g) e (i % 16) (omega arith)))
 
 -- ---- a code is opened
-module _ (g : List ℕ) (Q k x : ℕ) (c : Code Q k) (d : x ≢ 0) (len : length g ≡ 31) where
+module _ (g : List ℕ) (Q k x : ℕ) (c : IsCode Q k) (d : x ≢ 0) (len : length g ≡ 31) where
   abbrev next : List ℕ
   next = set g (node Q k) x
 
@@ -162,6 +162,6 @@ module _ (g : List ℕ) (Q k x : ℕ) (c : Code Q k) (d : x ≢ 0) (len : length
           ∙ ap (λ (t : Bool). cond t 0 (get_or p i 0)) (sym (listed_at (is_leaf_open next) false 16 (i % 16) (omega arith) ∙ o))
 
 -- where it is the first, its pairs alone are
-pub first_open : (Q k : ℕ) → Code Q k → (p : List ℕ) → pairs_with_bits p Q k [] ≡ with_open_cleared (set (replicate 31 0) (node Q k) 1) p
+pub first_open : (Q k : ℕ) → IsCode Q k → (p : List ℕ) → pairs_with_bits p Q k [] ≡ with_open_cleared (set (replicate 31 0) (node Q k) 1) p
 unfolding with_open_cleared any is_leaf_open
 first_open Q k c p = one_more_open (replicate 31 0) Q k 1 c (λ e. omega arith) refl p

@@ -7,16 +7,8 @@ pub fn has_byte_above_1(bits: &[u8]) -> bool
     ensures { result ≡ has_byte_above_1 bits.now }
 {
     let mut found = false;
-    for i in 0..bits.len() {
-        found = 1 < bits[i] || found;
+    for &bit in bits {
+        found |= 1 < bit;
     }
     found
-}
-
-// The same test for the benchmark, which times it by itself: no host's call.
-#[unsafe(no_mangle)]
-pub extern "C" fn tdd_has_byte_above_1(bits: &[u8]) -> bool
-    ensures { result ≡ has_byte_above_1 bits.now }
-{
-    has_byte_above_1(bits)
 }

@@ -1,14 +1,14 @@
 // The table of pairs, the bits of all codes: block by block of sixteen entries, code (q, k) has 16/q of each.
 ghost use Rattle.std.specs.Prelude.{◌≡◌, true, false, cond, ◌+◌, ◌*◌, ◌%◌, ◌<◌, ◌≤◌, length};
 ghost use Rattle.complex.specs.Buffers.{listed};
-ghost use Rattle.codes.specs.Tree.{is_spreading_factor};
 ghost use Rattle.modulation.specs.Symbols.{pair as pair_of};
 ghost use Rattle.tables.specs.Bits.{has_byte_above_1, pairs_with_bits};
 ghost use Rattle.tables.specs.OpenCodes.{is_leaf_open};
 ghost use Rattle.tables.specs.PairChanges.{cleared, with_open_cleared, with_part};
 
-use crate::gains::{any_of_five, is_open};
-use codes::tree;
+use crate::gains::is_open;
+use codes::tree::{self, Code};
+use std::array;
 
 // Pair n of the bits, by its number.
 fn inner_pair(bits: &[u8], n: usize) -> u8
@@ -29,7 +29,8 @@ fn pair(bits: &[u8], n: usize) -> u8
     inner_pair(bits, n)
 }
 
-// The pairs of the bits from pair n on, to the w entries from `at` on.
+// The pairs of the bits from pair n on, to the w entries from `at` on. By an index, here and in `put_block`: through the slice's iter_mut and enumerate,
+// tried in both, bits take longer to load. The last pairs lie past the bits, so these are no slice of as many.
 fn put_pairs(pairs: &mut [u8; 2208], at: usize, w: usize, bits: &[u8], n: usize)
     requires { (at + w ≤ 2208) × (n + w ≤ 2208) × (has_byte_above_1 bits.now ≡ false) × (length bits.now % 2 ≡ 0) }
     ensures { pairs.new ≡ with_part pairs.old at w (λ i. pair_of bits.now (n + i)) }
@@ -66,19 +67,20 @@ fn put_part(pairs: &mut [u8; 2208], at: usize, w: usize, bits: &[u8], n: usize)
     put_pairs(pairs, at, w, bits, n);
 }
 
-// The bits of code (q, k), 0 past their end: block by block of sixteen entries, its own 16/q of them.
-pub fn set_bits(pairs: &mut [u8; 2208], q: u32, k: u32, bits: &[u8])
-    requires { (is_spreading_factor q ≡ true) × (k < q) × (has_byte_above_1 bits.now ≡ false) × (length bits.now % 2 ≡ 0) }
-    ensures { pairs.new ≡ pairs_with_bits pairs.old q k bits.now }
+// The bits of a code, 0 past their end: block by block of sixteen entries, its own 16/q of them.
+pub fn set_bits(pairs: &mut [u8; 2208], code: Code, bits: &[u8])
+    requires { (has_byte_above_1 bits.now ≡ false) × (length bits.now % 2 ≡ 0) }
+    ensures { pairs.new ≡ pairs_with_bits pairs.old code.q code.k bits.now }
 {
-    let w = tree::width(q) as usize;
-    let from = k as usize * w;
+    let w = tree::width(code.q) as usize;
+    let from = code.k as usize * w;
+    // A number: it is the block, and gives where its part begins in the table and in the bits.
     for m in 0..138 {
         put_part(&mut *pairs, 16 * m + from, w, bits, m * w);
     }
 }
 
-// An entry, or 0 where it is to be cleared.
+// An entry, or 0 where it is to be cleared: a choice, which one mask makes.
 fn kept(entry: u8, clear: bool) -> u8
     ensures { result ≡ cond clear 0 entry }
 {
@@ -86,7 +88,7 @@ fn kept(entry: u8, clear: bool) -> u8
 }
 
 // Clears the entries of these leaves in every block. All entries are written, those to keep as they were: one mask then serves every block of
-// sixteen, which is one vector operation.
+// sixteen, which is one vector operation. By an index: one loop over the table's iter_mut, with leaf i % 16, was tried and takes several times as long.
 fn clear_leaves(pairs: &mut [u8; 2208], leaves: &[bool; 16])
     ensures { (pairs.new ≡ cleared pairs.old leaves.now) × (length pairs.old ≡ 2208) }
 {
@@ -98,29 +100,23 @@ fn clear_leaves(pairs: &mut [u8; 2208], leaves: &[bool; 16])
     }
 }
 
-// Whether leaf l lies below an open code: one code of each factor has it.
+// Whether leaf l lies below an open code: one code of each factor has it, written out as constants.
 fn is_leaf_open(gains: &[u16; 31], l: u32) -> bool
     requires { l < 16 }
     ensures { result ≡ is_leaf_open gains.now l }
 {
-    any_of_five(
-        is_open(gains, 1, 0),
-        is_open(gains, 2, l / 8),
-        is_open(gains, 4, l / 4),
-        is_open(gains, 8, l / 2),
-        is_open(gains, 16, l),
-    )
+    is_open(gains, Code { q: 1, k: 0 })
+        | is_open(gains, Code { q: 2, k: l / 8 })
+        | is_open(gains, Code { q: 4, k: l / 4 })
+        | is_open(gains, Code { q: 8, k: l / 2 })
+        | is_open(gains, Code { q: 16, k: l })
 }
 
 // Which leaves lie below open codes.
 fn open_leaves(gains: &[u16; 31]) -> [bool; 16]
     ensures { result ≡ listed 16 (is_leaf_open gains.now) }
 {
-    let mut leaves = [false; 16];
-    for l in 0..16 {
-        leaves[l as usize] = is_leaf_open(gains, l);
-    }
-    leaves
+    array::from_fn(|l| is_leaf_open(gains, l as u32))
 }
 
 // Clears the pairs of every open code.

@@ -8,5 +8,5 @@ ghost use Rattle.tables.specs.Bits.{has_byte_above_1};
 pub extern "C" fn tdd_has_byte_above_1(bits: &[u8]) -> bool
     ensures { result ≡ has_byte_above_1 bits.now }
 {
-    tables::bits::tdd_has_byte_above_1(bits)
+    tables::bits::has_byte_above_1(bits)
 }

@@ -5,20 +5,20 @@
 
 ghost use Rattle.std.specs.Prelude.{◌≡◌, pos, length, take};
 ghost use Rattle.complex.specs.Buffers.{written};
+ghost use Rattle.codes.specs.Answers.{answer_of};
 ghost use Rattle.codes.specs.Refusals.{after, refusal_of};
-ghost use Rattle.bench.specs.BenchCalls.{close_call, clear_sync_call, draw_call, fresh, left_by, load_bits_call, load_plan_call, open_call, plan_left_by, set_cell_call, set_gain_call, set_sync_call, start_call, answer_of_call, answer_of_draw};
+ghost use Rattle.bench.specs.BenchCalls.{close_call, clear_sync_call, draw_call, fresh, left_by, load_bits_call, load_plan_call, open_call, plan_left_by, set_cell_call, set_gain_call, set_sync_call, start_call};
 ghost use Rattle.read.specs.Reading.{read_call};
 ghost use Rattle.harden.specs.Hardening.{harden_call};
 ghost use Rattle.read_sync.specs.SyncReading.{read_sync_call};
 ghost use Rattle.find.specs.Finding.{find_call, ScratchLeft};
 ghost use Rattle.tdd_bench.specs.PlanResults.{place_of, plan_refusal_of};
 
-use bench::{Answered, Bench, CallAnswer, DrawAnswer, PlanAnswer, PlanRecords};
-use codes::CellParameter;
-use find::FindAnswer;
-use harden::HardenAnswer;
-use read::ReadAnswer;
-use read_sync::SyncAnswer;
+use bench::{Answered, Bench, PlanRecords};
+use codes::refusal::{Refusal, number_or_0};
+use codes::{CellParameter, CodeGroup};
+use find::Peak;
+use read_sync::Candidate;
 
 #[repr(C)]
 #[derive(Clone, Copy)]
@@ -61,15 +61,13 @@ pub struct FindResult {
 }
 
 // What a call that only changes settings, or starts a slot, answered and left.
-fn call_result(r: Answered) -> CallResult
-    ensures refusal { result.refusal ≡ refusal_of (answer_of_call r.answer) }
+fn call_result(r: Answered<(), Refusal>) -> CallResult
+    ensures refusal { result.refusal ≡ refusal_of (answer_of r.answer) }
     ensures bench { result.bench ≡ r.bench }
 {
-    let bench = r.bench;
-    let answer = r.answer;
-    match answer {
-        CallAnswer::Accepted => CallResult { refusal: 0, bench },
-        CallAnswer::Refused(n) => CallResult { refusal: n, bench },
+    CallResult {
+        refusal: number_or_0(&r.answer),
+        bench: r.bench,
     }
 }
 
@@ -108,19 +106,17 @@ pub extern "C" fn tdd_bench_load_records(
     ensures place { result.place ≡ place_of (load_plan_call bench (take count plan.records)) }
     ensures bench { result.bench ≡ plan_left_by (load_plan_call bench (take count plan.records)) bench }
 {
-    let planned = bench.load_records(plan, count);
-    let next = planned.bench;
-    let answer = planned.answer;
-    match answer {
-        PlanAnswer::Loaded => PlanResult {
+    let loaded = bench.load_records(plan, count);
+    match loaded.answer {
+        Ok(()) => PlanResult {
             refusal: 0,
             place: 0,
-            bench: next,
+            bench: loaded.bench,
         },
-        PlanAnswer::Refused(n, place) => PlanResult {
-            refusal: n,
-            place: place,
-            bench: next,
+        Err(r) => PlanResult {
+            refusal: r.refusal.number(),
+            place: r.place,
+            bench: loaded.bench,
         },
     }
 }
@@ -180,26 +176,6 @@ pub extern "C" fn tdd_bench_start(bench: Bench) -> CallResult
     call_result(bench.start())
 }
 
-// Document 01's number of a refused draw, or 0.
-fn draw_refusal(answer: DrawAnswer) -> u32
-    ensures { result ≡ refusal_of (answer_of_draw answer) }
-{
-    match answer {
-        DrawAnswer::Drew(_) => 0,
-        DrawAnswer::Refused(n) => n,
-    }
-}
-
-// How many chips a draw wrote, 0 where it was refused.
-fn draw_count(answer: DrawAnswer) -> usize
-    ensures { result ≡ after (answer_of_draw answer) 0 (λ m. m) }
-{
-    match answer {
-        DrawAnswer::Drew(count) => count,
-        DrawAnswer::Refused(_) => 0,
-    }
-}
-
 #[unsafe(no_mangle)]
 pub extern "C" fn tdd_bench_draw(bench: Bench, re: &mut [i32], im: &mut [i32]) -> DrawResult
     ensures refusal { result.refusal ≡ refusal_of (draw_call bench (length re.old) (length im.old)) }
@@ -209,12 +185,10 @@ pub extern "C" fn tdd_bench_draw(bench: Bench, re: &mut [i32], im: &mut [i32]) -
     ensures imaginary { im.new ≡ after (draw_call bench (length re.old) (length im.old)) im.old (λ d. written d.chips.im im.old) }
 {
     let drawn = bench.draw(re, im);
-    let next = drawn.bench;
-    let answer = drawn.answer;
     DrawResult {
-        refusal: draw_refusal(answer),
-        count: draw_count(answer),
-        bench: next,
+        refusal: number_or_0(&drawn.answer),
+        count: drawn.answer.unwrap_or(0),
+        bench: drawn.bench,
     }
 }
 
@@ -233,11 +207,7 @@ pub extern "C" fn tdd_read(
     ensures real { outre.new ≡ after (read_call cell q k re.now im.now (length outre.old) (length outim.old)) outre.old (λ y. written y.re outre.old) }
     ensures imaginary { outim.new ≡ after (read_call cell q k re.now im.now (length outre.old) (length outim.old)) outim.old (λ y. written y.im outim.old) }
 {
-    let answer = read::read(CellParameter(cell), q, k, re, im, outre, outim);
-    match answer {
-        ReadAnswer::Read => 0,
-        ReadAnswer::Refused(n) => n,
-    }
+    number_or_0(&read::read(CellParameter(cell), q, k, re, im, outre, outim))
 }
 
 // Answers the refusal alone: the bits are in `bits`.
@@ -246,11 +216,7 @@ pub extern "C" fn tdd_harden(re: &[i32], im: &[i32], bits: &mut [u8]) -> u32
     ensures refusal { result ≡ refusal_of (harden_call re.now im.now (length bits.old)) }
     ensures bytes { bits.new ≡ after (harden_call re.now im.now (length bits.old)) bits.old (λ b. written b bits.old) }
 {
-    let answer = harden::harden(re, im, bits);
-    match answer {
-        HardenAnswer::Hardened => 0,
-        HardenAnswer::Refused(number) => number,
-    }
+    number_or_0(&harden::harden(re, im, bits))
 }
 
 #[unsafe(no_mangle)]
@@ -261,19 +227,16 @@ pub extern "C" fn tdd_read_sync(case: u32, re: &[i32], im: &[i32]) -> SyncResult
     ensures half { result.half ≡ after (read_sync_call case re.now im.now) 0 (λ c. c.half) }
 {
     let answer = read_sync::read_sync(case, re, im);
-    match answer {
-        SyncAnswer::Burst(c) => SyncResult {
-            refusal: 0,
-            group: c.group.0,
-            frame: c.frame,
-            half: c.half,
-        },
-        SyncAnswer::Refused(n) => SyncResult {
-            refusal: n,
-            group: 0,
-            frame: 0,
-            half: 0,
-        },
+    let c = answer.unwrap_or(Candidate {
+        group: CodeGroup(0),
+        frame: 0,
+        half: 0,
+    });
+    SyncResult {
+        refusal: number_or_0(&answer),
+        group: c.group.0,
+        frame: c.frame,
+        half: c.half,
     }
 }
 
@@ -291,16 +254,10 @@ pub extern "C" fn tdd_find(
     ensures imaginary { ScratchLeft (find_call re.now im.now (length sumre.old) (length sumim.old)) sumim.old sumim.new }
 {
     let answer = find::find(re, im, sumre, sumim);
-    match answer {
-        FindAnswer::Found(p) => FindResult {
-            refusal: 0,
-            start: p.start,
-            size: p.size,
-        },
-        FindAnswer::Refused(number) => FindResult {
-            refusal: number,
-            start: 0,
-            size: 0,
-        },
+    let p = answer.unwrap_or(Peak { start: 0, size: 0 });
+    FindResult {
+        refusal: number_or_0(&answer),
+        start: p.start,
+        size: p.size,
     }
 }

@@ -1,17 +1,17 @@
 // The code rules for C and Rust hosts, as include/tdd_codes.h declares them: each export is the call of `codes` that its name ends with.
-// `refusal` is document 01's number, or 0 where the call is accepted; the other fields are 0 where it is refused.
+// `refusal` is document 01's number, or 0 where the call is accepted; the other fields are 0 where it is refused. A number, and a struct for each call's
+// answer: the C interface has no enum.
 #![tactic(auto)]
 
 ghost use Rattle.std.specs.Prelude.{◌≡◌, cond, pos};
 ghost use Rattle.complex.specs.Arithmetic.{𝟎};
-ghost use Rattle.codes.specs.Calls.{code_group_call, element_call, related_call, scrambling_chip_call, answer_of_chip, allocation_call, burst_start_call, primary_chip_call, secondary_chip_call};
+ghost use Rattle.codes.specs.Answers.{answer_of};
+ghost use Rattle.codes.specs.Calls.{code_group_call, element_call, related_call, scrambling_chip_call, allocation_call, burst_start_call, primary_chip_call, secondary_chip_call};
 ghost use Rattle.codes.specs.Refusals.{after, refusal_of};
 ghost use Rattle.codes.specs.Allocation.{silent};
 
-use codes::{
-    Allocated, AllocationAnswer, CellParameter, ChipAnswer, CodeGroup, ElementAnswer, GroupAnswer,
-    RelatedAnswer, StartAnswer, burst,
-};
+use codes::refusal::{Refusal, number_or_0};
+use codes::{Allocated, CellParameter, CodeGroup, burst};
 use complex::Complex;
 
 #[repr(C)]
@@ -28,15 +28,9 @@ pub extern "C" fn tdd_element(q: u32, k: u32, chip: u32) -> ElementResult
     ensures element { result.element ≡ after (element_call q k chip) (pos 0) (λ e. e) }
 {
     let answer = codes::element(q, k, chip);
-    match answer {
-        ElementAnswer::Element(e) => ElementResult {
-            refusal: 0,
-            element: e,
-        },
-        ElementAnswer::Refused(n) => ElementResult {
-            refusal: n,
-            element: 0,
-        },
+    ElementResult {
+        refusal: number_or_0(&answer),
+        element: answer.unwrap_or(0),
     }
 }
 
@@ -47,12 +41,6 @@ pub struct RelatedResult {
     pub related: u32,
 }
 
-fn one_if(yes: bool) -> u32
-    ensures { result ≡ cond yes 1 0 }
-{
-    if yes { 1 } else { 0 }
-}
-
 // Whether codes (q1, k1) and (q2, k2) are related: 1, or 0 where they are not. Refuses 3 and 4 of the first, then 3 and 4 of the second.
 #[unsafe(no_mangle)]
 pub extern "C" fn tdd_related(q1: u32, k1: u32, q2: u32, k2: u32) -> RelatedResult
@@ -60,15 +48,9 @@ pub extern "C" fn tdd_related(q1: u32, k1: u32, q2: u32, k2: u32) -> RelatedResu
     ensures related { result.related ≡ after (related_call q1 k1 q2 k2) 0 (λ t. cond t 1 0) }
 {
     let answer = codes::related(q1, k1, q2, k2);
-    match answer {
-        RelatedAnswer::Related(yes) => RelatedResult {
-            refusal: 0,
-            related: one_if(yes),
-        },
-        RelatedAnswer::Refused(n) => RelatedResult {
-            refusal: n,
-            related: 0,
-        },
+    RelatedResult {
+        refusal: number_or_0(&answer),
+        related: answer.map_or(0, u32::from),
     }
 }
 
@@ -86,15 +68,9 @@ pub extern "C" fn tdd_code_group(cell: u32) -> GroupResult
     ensures group { result.group ≡ after (code_group_call cell) 0 (λ g. g) }
 {
     let answer = codes::code_group(CellParameter(cell));
-    match answer {
-        GroupAnswer::Group(g) => GroupResult {
-            refusal: 0,
-            group: g.0,
-        },
-        GroupAnswer::Refused(n) => GroupResult {
-            refusal: n,
-            group: 0,
-        },
+    GroupResult {
+        refusal: number_or_0(&answer),
+        group: answer.map_or(0, |g| g.0),
     }
 }
 
@@ -106,19 +82,13 @@ pub struct ChipResult {
 }
 
 // The answer of a call that gives a chip.
-fn chip_result(answer: ChipAnswer) -> ChipResult
-    ensures refusal { result.refusal ≡ refusal_of (answer_of_chip answer) }
-    ensures chip { result.chip ≡ after (answer_of_chip answer) 𝟎 (λ x. x) }
+fn chip_result(answer: Result<Complex, Refusal>) -> ChipResult
+    ensures refusal { result.refusal ≡ refusal_of (answer_of answer) }
+    ensures chip { result.chip ≡ after (answer_of answer) 𝟎 (λ x. x) }
 {
-    match answer {
-        ChipAnswer::Chip(x) => ChipResult {
-            refusal: 0,
-            chip: x,
-        },
-        ChipAnswer::Refused(n) => ChipResult {
-            refusal: n,
-            chip: Complex { re: 0, im: 0 },
-        },
+    ChipResult {
+        refusal: number_or_0(&answer),
+        chip: answer.unwrap_or(Complex::ZERO),
     }
 }
 
@@ -163,17 +133,10 @@ pub extern "C" fn tdd_allocation(case: u32, group: u32, frame: u32, half: u32) -
     ensures refusal { result.refusal ≡ refusal_of (allocation_call case group frame half) }
     ensures codes { result.codes ≡ after (allocation_call case group frame half) silent (λ s. s) }
 {
-    let none = burst::silent();
     let answer = codes::allocation(case, CodeGroup(group), frame, half);
-    match answer {
-        AllocationAnswer::Codes(s) => AllocationResult {
-            refusal: 0,
-            codes: s,
-        },
-        AllocationAnswer::Refused(n) => AllocationResult {
-            refusal: n,
-            codes: none,
-        },
+    AllocationResult {
+        refusal: number_or_0(&answer),
+        codes: answer.unwrap_or(burst::silent()),
     }
 }
 
@@ -190,15 +153,9 @@ pub extern "C" fn tdd_burst_start(group: u32) -> StartResult
     ensures refusal { result.refusal ≡ refusal_of (burst_start_call group) }
     ensures start { result.start ≡ after (burst_start_call group) 0 (λ n. n) }
 {
-    let answer = codes::burst_start(CodeGroup(group));
-    match answer {
-        StartAnswer::Start(n) => StartResult {
-            refusal: 0,
-            start: n,
-        },
-        StartAnswer::Refused(number) => StartResult {
-            refusal: number,
-            start: 0,
-        },
+    let start = codes::burst_start(CodeGroup(group));
+    StartResult {
+        refusal: number_or_0(&start),
+        start: start.unwrap_or(0),
     }
 }

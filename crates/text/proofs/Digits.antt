@@ -1,13 +1,12 @@
 -- Decimal digits read one by one, in order. Assumes nothing.
-use Rattle.std.proofs.Common.{◌≡◌, ℕ, ◌+◌, ◌-◌, ◌*◌, ◌<◌, ◌≤◌, Bool, true, false, cond, ◌&&◌, T, leb, List, [], ◌∷◌, length, get_or, drop, pos, neg_ℤ, sym, refl, subst, not-suc-le-zero, arith, leb→le, eq-eqb, ne_eqb, le-leb, leb-false}
-use mathlib.Core.Option.{Option, some, none}
+use Rattle.std.proofs.Common.{◌∙◌, add-one, drop-cons, ◌≡◌, ℕ, ◌+◌, ◌-◌, ◌*◌, ◌<◌, ◌≤◌, Bool, true, false, cond, ◌&&◌, leb, List, [], ◌∷◌, length, get_or, drop, refl, not-suc-le-zero, arith, le-leb}
+use Rattle.std.specs.Prelude.{Option, Some, None}
 use borrow.Author.Tests.{lt-leb}
-use mir.Facts.{and_yes}
-use Rattle.text.specs.Decimal.{are_digits, at_most, component_in, is_digit, is_number, natural_in, decimal_value, decimal_after}
+use Rattle.text.specs.Decimal.{are_digits, is_digit, natural_in, decimal_after}
 
 -- the number that the digits w write after those of v
 unfoldable pub read_after : ℕ → List ℕ → Option ℕ
-read_after v w = cond (are_digits w && leb (decimal_after v w) 4294967295) (some (decimal_after v w)) none
+read_after v w = cond (are_digits w && leb (decimal_after v w) 4294967295) (Some (decimal_after v w)) None
 
 pub natural_read : (w : List ℕ) → 0 < length w → natural_in w ≡ read_after 0 w
 unfolding read_after
@@ -24,67 +23,41 @@ no_and : (t : Bool) → (t && false) ≡ false
 no_and true = refl
 no_and false = refl
 
-pub read_past : (v : ℕ) (w : List ℕ) → 4294967295 < v → read_after v w ≡ none
+pub read_past : (v : ℕ) (w : List ℕ) → 4294967295 < v → read_after v w ≡ None
 unfolding read_after
 read_past v w h =
     let g = grows v w in
     rw (lt-leb (decimal_after v w) 4294967295 (omega arith), no_and (are_digits w))
 
-pub read_all : (v : ℕ) → v ≤ 4294967295 → read_after v [] ≡ some v
+pub read_all : (v : ℕ) → v ≤ 4294967295 → read_after v [] ≡ Some v
 unfolding read_after decimal_after are_digits
 read_all v h = rw (le-leb v 4294967295 h)
 
--- the next byte b, with d for its digit or 10
-module _ (v b d : ℕ) (w : List ℕ) (e : d ≡ cond (is_digit b) (b - 48) 10) where
-  pub read_other : 9 < d → read_after v (b ∷ w) ≡ none
+-- the next byte b
+module _ (v b : ℕ) (w : List ℕ) where
+  pub read_other : None ≡ cond (is_digit b) (Some (b - 48)) None → read_after v (b ∷ w) ≡ None
   unfolding read_after are_digits
-  read_other h = go (is_digit b) refl
+  read_other = go (is_digit b) refl
     where
-      go : (t : Bool) → is_digit b ≡ t → read_after v (b ∷ w) ≡ none
-      go true q =
-          let g : d ≡ b - 48 = rw q at e in
-          absurd (omega (arith, leb→le b 57 (and_yes (leb 48 b) (leb b 57) (subst T (sym q) tt)).1))
-      go false q = rw q
+      go : (t : Bool) → is_digit b ≡ t → None ≡ cond t (Some (b - 48)) None → read_after v (b ∷ w) ≡ None
+      go true q e = cc
+      go false q e = rw q
 
-  pub read_digit : d ≤ 9 → read_after v (b ∷ w) ≡ read_after (v * 10 + d) w
+  pub read_digit : (d : ℕ) → Some d ≡ cond (is_digit b) (Some (b - 48)) None → read_after v (b ∷ w) ≡ read_after (v * 10 + d) w
   unfolding read_after are_digits decimal_after
-  read_digit h = go (is_digit b) refl
+  read_digit d = go (is_digit b) refl
     where
-      go : (t : Bool) → is_digit b ≡ t → read_after v (b ∷ w) ≡ read_after (v * 10 + d) w
-      go true q = let g : d ≡ b - 48 = rw q at e in rw (q, g)
-      go false q = let g : d ≡ 10 = rw q at e in absurd (omega arith)
+      go : (t : Bool) → is_digit b ≡ t → Some d ≡ cond t (Some (b - 48)) None → read_after v (b ∷ w) ≡ read_after (v * 10 + d) w
+      go true q e = let g : d ≡ b - 48 = cc in rw (q, g)
+      go false q e = cc
 
--- a number of 32 bits held to a smaller limit m, and what f makes of it
-same : (t : Bool) {v x : ℕ} → some v ≡ cond t (some x) none → v ≡ x
-same true e = cc
-same false e = cc
+  -- whatever follows
+  pub read_past_ten : 4294967295 < v * 10 → read_after v (b ∷ w) ≡ None
+  unfolding read_after decimal_after
+  read_past_ten h =
+      let g = grows (v * 10 + (b - 48)) w in
+      rw (lt-leb (decimal_after (v * 10 + (b - 48)) w) 4294967295 (omega arith), no_and (are_digits (b ∷ w)))
 
-past_limit : (t : Bool) {x : ℕ} → leb x 4294967295 ≡ t → none ≡ cond t (some x) none → 4294967295 < x
-past_limit true q e = let z : ◌≡◌ {A = ℕ} 0 1 = cc in omega arith
-past_limit false {x} q e = leb-false x 4294967295 q
-
-module _ {A : Type 0} (m : ℕ) (f : ℕ → A) (h : m ≤ 4294967295) (w : List ℕ) where
-  pub within : (v : ℕ) → some v ≡ natural_in w → cond (leb v m) (some (f v)) none ≡ cond (at_most m w) (some (f (decimal_value w))) none
-  within v e = go (is_number w) e
-    where
-      go : (s : Bool) → some v ≡ cond (s && leb (decimal_value w) 4294967295) (some (decimal_value w)) none
-          → cond (leb v m) (some (f v)) none ≡ cond (s && leb (decimal_value w) m) (some (f (decimal_value w))) none
-      go true p = rw (same (leb (decimal_value w) 4294967295) p)
-      go false p = cc
-
-  pub none_within : none ≡ natural_in w → none ≡ cond (at_most m w) (some (f (decimal_value w))) none
-  none_within e = go (is_number w) e
-    where
-      go : (s : Bool) → none ≡ cond (s && leb (decimal_value w) 4294967295) (some (decimal_value w)) none → none ≡ cond (s && leb (decimal_value w) m) (some (f (decimal_value w))) none
-      go true p = let g = past_limit (leb (decimal_value w) 4294967295) refl p in rw (lt-leb (decimal_value w) m (omega arith))
-      go false p = refl
-
--- a component by its first byte
-pub negative : (w : List ℕ) → 0 < length w → get_or w 0 0 ≡ 45
-    → component_in w ≡ cond (at_most 2147483648 (drop 1 w)) (some (neg_ℤ (pos (decimal_value (drop 1 w))))) none
-negative [] h e = absurd (not-suc-le-zero h)
-negative (b ∷ w) h e = rw (eq-eqb b 45 e)
-
-pub positive : (w : List ℕ) → 0 < length w → (get_or w 0 0 ≡ 45 → ⊥) → component_in w ≡ cond (at_most 2147483647 w) (some (pos (decimal_value w))) none
-positive [] h e = absurd (not-suc-le-zero h)
-positive (b ∷ w) h e = rw (ne_eqb b 45 e)
+-- the number of w from the byte at i on
+pub read_next : (w : List ℕ) (v i : ℕ) → i < length w → natural_in w ≡ read_after v (drop i w) → natural_in w ≡ read_after v (get_or w i 0 ∷ drop (i + 1) w)
+read_next w v i h e = e ∙ rw (add-one i, drop-cons w i 0 h)

@@ -1,10 +1,5 @@
 -- Numbers as a script writes them (docs/TDD.md, "Scripts"), one byte a character.
-use Rattle.std.specs.Prelude.{ℕ, ◌+◌, ◌-◌, ◌*◌, Bool, true, false, cond, ◌&&◌, List, [], ◌∷◌, ℤ, pos, neg_ℤ, ◌==◌, nat_le}
-use Rattle.std.proofs.Math.Option.{Option, some, none}
-use Rattle.text.specs.declared.numbers.Natural.{Natural}
-use Rattle.text.specs.declared.numbers.Natural.TheVariants.{Is as IsNatural, Bad as NoNatural}
-use Rattle.text.specs.declared.numbers.Component.{Component}
-use Rattle.text.specs.declared.numbers.Component.TheVariants.{Is as IsComponent, Bad as NoComponent}
+use Rattle.std.specs.Prelude.{ℕ, ◌+◌, ◌-◌, ◌*◌, Bool, true, false, cond, ◌&&◌, List, [], ◌∷◌, ℤ, pos, neg_ℤ, ◌==◌, nat_le, Option, Some, None}
 
 -- a decimal digit: the bytes 48 to 57 stand for 0 to 9
 abbrev pub is_digit : ℕ → Bool
@@ -33,19 +28,10 @@ at_most m w = is_number w && nat_le (decimal_value w) m
 
 -- "with value from 0 to 4,294,967,295"
 abbrev pub natural_in : List ℕ → Option ℕ
-natural_in w = cond (at_most 4294967295 w) (some (decimal_value w)) none
+natural_in w = cond (at_most 4294967295 w) (Some (decimal_value w)) None
 
 -- "a component may have `-` before it, with value from -2,147,483,648 to 2,147,483,647": 45 is the byte of `-`
 abbrev pub component_in : List ℕ → Option ℤ
-component_in [] = none
+component_in [] = None
 component_in (b ∷ w) =
-    cond (b == 45) (cond (at_most 2147483648 w) (some (neg_ℤ (pos (decimal_value w)))) none) (cond (at_most 2147483647 (b ∷ w)) (some (pos (decimal_value (b ∷ w)))) none)
-
--- the number that each case stands for
-abbrev pub number_of_natural : Natural → Option ℕ
-number_of_natural (IsNatural v) = some v
-number_of_natural NoNatural = none
-
-abbrev pub number_of_component : Component → Option ℤ
-number_of_component (IsComponent v) = some v
-number_of_component NoComponent = none
+    cond (b == 45) (cond (at_most 2147483648 w) (Some (neg_ℤ (pos (decimal_value w)))) None) (cond (at_most 2147483647 (b ∷ w)) (Some (pos (decimal_value (b ∷ w)))) None)

@@ -1,129 +1,110 @@
-// Answers are gathered in a buffer that goes to standard output when it is full, and before the program waits for input. `n` bytes of
-// the buffer are used; each function answers the new n. Once a write has failed n is FAILED, and nothing more is written.
-use crate::complement::not_negative;
-use itoa::Buffer;
-use std::io::{Error, ErrorKind, Print, Stdout};
+// Answers are gathered in a buffer that goes to standard output when it is full, and before the program waits for input.
+ghost use Rattle.std.specs.Prelude.{◌≡◌, ◌+◌, ◌≤◌, length, OnOk};
+
+use itoa::{Buffer, Integer};
+use std::io::{Print, Result, Stdout, Write};
 
 pub const ROOM: usize = 65536;
 
-pub const FAILED: usize = 65537;
+// A blank, a comma, and two numbers of ten digits and a sign.
+const LONGEST_PAIR: usize = 24;
 
+// std's BufWriter has its buffer on the heap.
 #[derive(Drop)]
 pub struct Answers {
     bytes: [u8; ROOM],
+    // How many of the bytes wait.
+    used: usize,
     to: Stdout,
-    // Of the write that failed.
-    error: Option<Error>,
+    ghost within: { used ≤ 65536 },
 }
 
 impl Answers {
     pub fn new(to: Stdout) -> Answers {
         Answers {
             bytes: [0; ROOM],
+            used: 0,
             to,
-            error: None,
         }
     }
 
-    // Why n is FAILED.
-    pub fn error(&self) -> Error {
-        match self.error {
-            Some(error) => error,
-            None => Error::from(ErrorKind::WriteZero),
+    pub fn byte(&mut self, b: u8) -> Result<()> {
+        if self.used == ROOM {
+            self.empty()?;
         }
+        self.bytes[self.used] = b;
+        self.used += 1;
+        Ok(())
     }
-}
 
-// Writes what the buffer has.
-pub fn flush(out: &mut Answers, n: usize) -> usize {
-    if n > ROOM {
-        return FAILED;
+    pub fn number<N: Integer>(&mut self, x: N) -> Result<()> {
+        let mut digits = Buffer::new();
+        self.write_all(digits.format(x).as_bytes())
     }
-    match out.to.write_all(&out.bytes[..n]) {
-        Ok(()) => 0,
-        Err(error) => {
-            out.error = Some(error);
-            FAILED
+
+    // Two numbers with a comma between, after a blank where one is due. Room is made first, so that no part can fail: std's errors are large, and a
+    // Result for each part took longer than the part.
+    pub fn pair(&mut self, blank: bool, x: i32, y: i32) -> Result<()> {
+        if self.used > ROOM - LONGEST_PAIR {
+            self.empty()?;
         }
-    }
-}
-
-pub fn byte(out: &mut Answers, n: usize, b: u8) -> usize {
-    if n < ROOM {
-        out.bytes[n] = b;
-        return n + 1;
-    }
-    if flush(out, n) == FAILED {
-        return FAILED;
-    }
-    out.bytes[0] = b;
-    1
-}
-
-pub fn text(out: &mut Answers, n: usize, s: &[u8]) -> usize {
-    let mut m = n;
-    for i in 0..s.len() {
-        m = byte(out, m, s[i]);
-    }
-    m
-}
-
-pub fn number(out: &mut Answers, n: usize, x: u64) -> usize {
-    let mut digits = Buffer::new();
-    text(out, n, digits.format(x).as_bytes())
-}
-
-fn wide(x: u32) -> u64 {
-    x as u64
-}
-
-fn natural(out: &mut Answers, n: usize, x: u32) -> usize {
-    number(out, n, wide(x))
-}
-
-// `!x` is -x - 1, and fits whatever x is.
-pub fn component(out: &mut Answers, n: usize, x: i32) -> usize {
-    if x < 0 {
-        let m = byte(out, n, b'-');
-        return natural(out, m, std::num::wrapping_add_u32(not_negative(!x), 1));
-    }
-    natural(out, n, not_negative(x))
-}
-
-// A text with a number after it.
-pub fn counted(out: &mut Answers, n: usize, s: &[u8], x: u64) -> usize {
-    let m = text(out, n, s);
-    number(out, m, x)
-}
-
-// A word between quotes, its first 32 bytes.
-pub fn quoted(out: &mut Answers, n: usize, word: &[u8]) -> usize {
-    let mut m = byte(out, n, b'\'');
-    m = shown(out, m, word);
-    if word.len() > 32 {
-        m = text(out, m, b"...");
-    }
-    byte(out, m, b'\'')
-}
-
-fn shown(out: &mut Answers, n: usize, word: &[u8]) -> usize {
-    let mut m = n;
-    for i in 0..32 {
-        if i >= word.len() {
-            break;
+        if blank {
+            self.put(b" ");
         }
-        m = byte(out, m, printing(word[i]));
+        let mut digits = Buffer::new();
+        self.put(digits.format(x).as_bytes());
+        self.put(b",");
+        self.put(digits.format(y).as_bytes());
+        Ok(())
     }
-    m
+
+    #[inline(always)]
+    fn put(&mut self, s: &[u8])
+        requires { self.old.used + length s.now ≤ 65536 }
+        ensures { self.new.used ≡ self.old.used + length s.now }
+    {
+        let from = self.used;
+        let to = from + s.len();
+        self.bytes[from..to].copy_from_slice(s);
+        self.used = to;
+    }
+
+    // Writes the bytes that wait.
+    #[cold]
+    fn empty(&mut self) -> Result<()>
+        ensures { OnOk result (self.new.used ≡ 0) }
+    {
+        self.to.write_all(&self.bytes[..self.used])?;
+        self.used = 0;
+        Ok(())
+    }
+
+    // Writes a text that there is no room for as a whole.
+    #[cold]
+    fn piecewise(&mut self, s: &[u8]) -> Result<()> {
+        for b in s {
+            self.byte(*b)?;
+        }
+        Ok(())
+    }
 }
 
-// b, or `?` where it is no printing ASCII character.
-fn printing(b: u8) -> u8 {
-    if b < 33 {
-        return b'?';
+impl Write for Answers {
+    fn write(&mut self, s: &[u8]) -> Result<usize> {
+        self.write_all(s)?;
+        Ok(s.len())
     }
-    if b > 126 {
-        return b'?';
+
+    fn flush(&mut self) -> Result<()> {
+        self.empty()
     }
-    b
+
+    #[inline(always)]
+    fn write_all(&mut self, s: &[u8]) -> Result<()> {
+        if s.len() > ROOM - self.used {
+            return self.piecewise(s);
+        }
+        self.put(s);
+        Ok(())
+    }
 }

@@ -1,8 +1,8 @@
 // Scripts by their names, and what is told where one cannot be read or answered.
-use crate::answers::{Answers, FAILED};
-use crate::{answers, words};
+ghost use Rattle.std.specs.Prelude.{◌≤◌, IfOk, length};
+
 use std::fs::File;
-use std::io::{Cursor, Error, ErrorKind, Read, Stderr, Stdin, Write};
+use std::io::{Cursor, Error, ErrorKind, Print, Read, Stderr, Stdin, Write};
 use std::process::ExitCode;
 use std::rt::HostRuntime;
 
@@ -21,7 +21,9 @@ pub enum Source {
 
 impl Source {
     // Reads once, and answers how many bytes came: none at the end.
-    pub fn read(&mut self, part: &mut [u8]) -> std::io::Result<usize> {
+    pub fn read(&mut self, part: &mut [u8]) -> std::io::Result<usize>
+        ensures { IfOk result (λ n. n ≤ length part.old) }
+    {
         match self {
             Source::Standard(input) => input.read(part),
             Source::File(file) => file.read(part),
@@ -29,20 +31,11 @@ impl Source {
     }
 }
 
-// How a script's run ended; where a read or a write failed, the error says why.
-#[derive(Drop)]
-pub enum Ending {
-    Whole,
-    NotRead(Error),
-    NotWritten(Error),
-}
-
-// How a run ended whose last answers, n bytes, are to be written.
-pub fn last(out: &mut Answers, n: usize) -> Ending {
-    if answers::flush(out, n) == FAILED {
-        return Ending::NotWritten(out.error());
-    }
-    Ending::Whole
+// Why a script was not answered to its end.
+#[derive(Debug, Drop)]
+pub enum Failure {
+    Read(Error),
+    Write(Error),
 }
 
 // Says what failed, and why, on standard error. The program's status does not tell it: the command ./tdd gives it a descriptor 3 for that.
@@ -64,40 +57,38 @@ fn tell(to: Stderr, what: &[u8], name: &[u8], why: Error) {
 
 // The words of an error's text: what stands before its number, or before the zeros after it.
 fn without_number(text: &[u8]) -> &[u8] {
-    let end = words::index(text, 0, 0);
-    for i in 0..end {
-        let number = words::part(text, i, std::num::wrapping_add_usize(i, 11));
-        if words::same(number, b" (os error ") {
-            return words::part(text, 0, i);
-        }
-    }
-    words::part(text, 0, end)
+    let number = text
+        .windows(11)
+        .position(|part| part == b" (os error ".as_slice());
+    let zeros = text.iter().position(|b| *b == 0);
+    let end = number.or(zeros).unwrap_or(text.len());
+    text.get(..end).unwrap_or(text)
 }
 
-// Tells how the run of the script with this name ended, and answers the status to end with where no next one can be run.
-pub fn ended(rt: &HostRuntime, ending: Ending, name: &[u8]) -> Option<ExitCode> {
+// Tells how the run of the script with this name ended; Err is the status to end with, where no next script can be run.
+pub fn ended(rt: &HostRuntime, ending: Result<(), Failure>, name: &[u8]) -> Result<(), ExitCode> {
     match ending {
-        Ending::Whole => None,
-        Ending::NotRead(why) => {
+        Ok(()) => Ok(()),
+        Err(Failure::Read(why)) => {
             fail(rt, b"tdd: cannot read ", name, why);
-            None
+            Ok(())
         }
-        Ending::NotWritten(why) => {
+        Err(Failure::Write(why)) => {
             if why.kind() == ErrorKind::BrokenPipe {
-                return Some(ExitCode::from(UNREAD));
+                return Err(ExitCode::from(UNREAD));
             }
             fail(rt, b"tdd: cannot write ", b"the answers", why);
-            Some(ExitCode::SUCCESS)
+            Err(ExitCode::SUCCESS)
         }
     }
 }
 
 // Writes a script's name before its answers, where that can be done.
-pub fn heading(rt: &HostRuntime, name: &[u8]) -> std::io::Result<()> {
+pub fn heading(rt: &HostRuntime, name: &[u8]) -> Result<(), Failure> {
     let to = rt.stdout();
-    to.write_all(b"==> ")?;
-    to.write_all(name)?;
-    to.write_all(b" <==\n")
+    to.write_all(b"==> ").map_err(Failure::Write)?;
+    to.write_all(name).map_err(Failure::Write)?;
+    to.write_all(b" <==\n").map_err(Failure::Write)
 }
 
 // Opens the script with this name; where it cannot, that is told, and there is none.

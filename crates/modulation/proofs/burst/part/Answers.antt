@@ -1,14 +1,12 @@
--- `part` meets its contract. The loop's invariant: the first i chips are written. Assumes nothing.
+-- `part` meets its contract. Assumes nothing.
 use mathlib.Core.Path.{◌≡◌, sym, ap, ap₂, ◌∙◌, subst}
 use Prim.Native.Nat.{ℕ, ◌+◌, ◌*◌, ◌≤◌, ◌<◌}
 use native.Mathlib.Omega.{arith}
 use borrow.Author.Rules.{rules}
 use lib.IntN.{pos, ◌*ℤ◌}
-use mir.Syntax.{w32}
-use mir.Val.{to_z}
 use Rattle.complex.specs.declared.Complex.{Complex}
 use Rattle.complex.specs.Arithmetic.{◌+j◌, real, ◌⊗◌}
-use Rattle.complex.specs.Fits.{Both}
+use Rattle.complex.specs.Fits.{Within, Both}
 use Rattle.complex.proofs.Stored.{Is, held, number, stored, fits, within, times}
 use Rattle.complex.specs.Buffers.{◌at◌}
 use Rattle.codes.specs.declared.Allocated.{Allocated}
@@ -19,22 +17,22 @@ use Rattle.codes.proofs.Rows.{row_within, a_signs_test}
 use Rattle.codes.proofs.Allocations.{AllKnown, allocation_known}
 use Rattle.modulation.specs.SixteenChips.{modulated_parts, part_chip}
 use Rattle.modulation.proofs.BurstParts.{small_units, gained_both, burst_parts, modulated_parts_both}
-use Rattle.modulation.proofs.Blocks.{filled_none, filled_more, filled_all, block_cong}
 use Rattle.modulation.proofs.burst.part.Goals as goal
-use Rattle.modulation.proofs.burst.part.Goals.{After-a_repeat, After-gained-s, After-modulated_parts-t, Start}
+use Rattle.modulation.proofs.burst.part.Goals.{After-from, After-gained-s, After-modulated_parts-t, Start}
 
 -- the gains are 16-bit numbers
 small : (c : Start) → (c.args.gp ≤ 65535) × (c.args.gs ≤ 65535)
 small c = (omega arith, omega arith)
 
 -- what the locals p, t and s hold
-p_is : (c : After-a_repeat) → let s = c.args in
-    Is 65535 (held c.a_repeat.result *ℤ to_z w32 s.gp) (a_signs at s.m *ℤ pos s.gp)
-p_is c = times (stored (record { equal = c.a_repeat.ensures; size = row_within a_signs a_signs_test _ }) tt) (stored (number 65535 _ (small c.before).0) tt)
+p_is : (c : After-from) → let s = c.args in
+    Is 65535 (held c.a_repeat.result *ℤ held c.from.result) (a_signs at s.m *ℤ pos s.gp)
+p_is c =
+    rw c.from.ensures (times (stored (record { equal = c.a_repeat.ensures; size = row_within a_signs a_signs_test _ }) tt) (stored (number 65535 _ (small c.before.before).0) tt))
 
 module _ (c : After-modulated_parts-t) where
   abbrev start : Start
-  start = c.before.before.before
+  start = c.before.before.before.before
 
   abbrev allocated_codes : Allocated
   allocated_codes = let s = start.args in allocation s.case s.group.0 s.frame s.half
@@ -51,12 +49,12 @@ module _ (c : After-modulated_parts-t) where
 s_is : (c : After-gained-s) → c.gained-s.result ≡ real (pos (start c.before).args.gs) ⊗ (t c.before ⊗ (pos 1 +j pos 1))
 s_is c = c.gained-s.ensures ∙ ap (λ (x : Complex). real (pos (start c.before).args.gs) ⊗ (x ⊗ (pos 1 +j pos 1))) (t_is c.before)
 
--- what the loop writes is the burst
+-- what the closure makes is the burst
 chip_is : (c : After-gained-s) → let s = (start c.before).args in (i : ℕ) → i < 16
-    → part_chip (held (held c.a_repeat.result *ℤ to_z w32 s.gp)) c.gained-s.result i
+    → part_chip (held (held (held c.a_repeat.result *ℤ held c.from.result))) c.gained-s.result i
     ≡ burst s.case s.group.0 s.frame s.half s.gp s.gs (s.m * 16 + i)
 chip_is c i h =
-    ap₂ (λ p x. part_chip p x i) (stored (p_is c.before.before.before) tt).equal (s_is c)
+    ap₂ (λ p x. part_chip p x i) (stored (stored (p_is c.before.before.before) tt) tt).equal (s_is c)
     ∙ sym (burst_parts _ i (start c.before).requires h _ _ _ _ _ _)
 
 pub overflow_mul-p : goal.overflow_mul-p
@@ -68,16 +66,15 @@ modulated_parts-t-requires c = small_units _ (subst AllKnown (sym c.allocated.en
 pub gained-s-requires : goal.gained-s-requires
 gained-s-requires c = subst (Both 3) (sym (t_is c)) (t_both c)
 
-pub loop-i-init : goal.loop-i-init
-loop-i-init c = filled_none
-
-pub part_chip-c-requires : goal.part_chip-c-requires
-part_chip-c-requires c =
-    (within (stored (p_is (goal.at.part_chip-c-requires c).After-a_repeat) tt), subst (Both 400000) (sym (s_is (goal.at.part_chip-c-requires c).After-gained-s)) (gained_both _ _ (small (start (goal.at.part_chip-c-requires c).After-modulated_parts-t)).1 (t_both (goal.at.part_chip-c-requires c).After-modulated_parts-t)))
-
-pub loop-i-preserved : goal.loop-i-preserved
-loop-i-preserved c =
-    filled_more c.loop-i.invariant (omega arith) c.part_chip-c.result (search rules) c.part_chip-c.ensures
+pub from_fn-requires : goal.from_fn-requires
+from_fn-requires c i l =
+    let w = goal.at.from_fn-requires c in
+    let p : Within 65535 (held (held (held c.a_repeat.result *ℤ held c.from.result))) = within (stored (stored (p_is w.After-from) tt) tt) in
+    let s : Both 400000 c.gained-s.result = subst (Both 400000) (sym (s_is w.After-gained-s)) (gained_both _ _ (small w.Start).1 (t_both w.After-modulated_parts-t)) in
+    search rules
 
 pub returns : goal.returns
-returns c = filled_all c.loop-i.invariant (omega arith) ∙ block_cong _ _ (chip_is (goal.at.returns c).After-gained-s)
+returns c =
+    c.from_fn.ensures _ (λ i z l e.
+    let k : z ≡ part_chip (held (held (held c.a_repeat.result *ℤ held c.from.result))) c.gained-s.result i = search rules in
+    k ∙ chip_is (goal.at.returns c).After-gained-s i l)

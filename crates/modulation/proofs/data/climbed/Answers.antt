@@ -2,15 +2,11 @@
 use mathlib.Core.Path.{sym, ◌∙◌}
 use native.Mathlib.Omega.{arith}
 use Rattle.complex.proofs.Bounds.{bound_more}
-use Rattle.modulation.proofs.Levels.{raised_bound, nothing_added, round_with_own}
+use Rattle.modulation.proofs.Levels.{a_factor, raised_bound, nothing_added, round_with_own}
 use Rattle.modulation.proofs.data.climbed.Goals as goal
 
-pub raised-y-requires : goal.raised-y-requires
-raised-y-requires c = (c.requires.0, c.requires.3)
-
 pub with_own-y-requires : goal.with_own-y-requires
-with_own-y-requires c =
-    (c.requires.0, c.requires.2, raised_bound c.requires.3 _ c.raised-y.ensures)
+with_own-y-requires c = (c.requires.1, raised_bound c.requires.2 _ c.raised-y.ensures)
 
 pub returns-then-any_open : goal.returns-then-any_open
 returns-then-any_open c =
@@ -18,4 +14,4 @@ returns-then-any_open c =
 
 pub returns-else-any_open : goal.returns-else-any_open
 returns-else-any_open c =
-    record { entries = c.raised-y.ensures ∙ nothing_added _ _ _ _ c.requires.0 (sym c.requires.1 ∙ c.if-any_open.false); size = λ k m h. bound_more (raised_bound h _ c.raised-y.ensures) _ (omega arith) }
+    record { entries = c.raised-y.ensures ∙ nothing_added _ _ _ _ (a_factor c.args.level) (sym c.requires.0 ∙ c.if-any_open.false); size = λ k m h. bound_more (raised_bound h _ c.raised-y.ensures) _ (omega arith) }

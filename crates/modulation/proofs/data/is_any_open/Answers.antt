@@ -1,31 +1,46 @@
--- `is_any_open` meets its contract. The loop's invariant: what it has found among the first k codes. Assumes nothing.
-use mathlib.Core.Path.{◌≡◌, refl, ◌∙◌}
-use mathlib.Core.Bool.{◌||◌, not}
+-- `is_any_open` meets its contract: what `any` answers of a part of a list is what the definition answers of its entries. Assumes nothing.
+use borrow.Author.Rules.{rules}
+use mathlib.Core.Path.{◌≡◌, refl, sym, ap, ◌∙◌}
+use mathlib.Core.Bool.{Bool, true, false, not, ◌||◌}
+use mathlib.Core.List.{List}
 use native.Mathlib.Numerals.{add-one}
 use native.Mathlib.Omega.{arith}
-use borrow.Author.Tests.{eq-eqb, ne_eqb}
+use Prim.Native.Nat.{ℕ, zero, suc, ◌-◌, ◌*◌, ◌≤◌, ◌<◌}
 use lib.Dec.{eqb}
-use lib.ListN.{get_or}
+use lib.ListN.{length, get_or, take, drop, length-drop}
+use Rattle.std.specs.List.{list_any}
+use Rattle.std.proofs.lemmas.List.{get_or-drop}
+use Rattle.std.proofs.lemmas.List.Folds.{list_any_more}
+use Rattle.std.proofs.lemmas.Iterator.{YieldsList-from_slice}
+use Rattle.std.proofs.lemmas.Iterator.Search.{any_from_yields_List}
 use Rattle.codes.specs.Range.{any}
-use Rattle.modulation.specs.Nodes.{node}
 use Rattle.modulation.proofs.data.is_any_open.Goals as goal
-use Rattle.modulation.proofs.data.is_any_open.Goals.{Joined-gains-q-ne0, else-gains-q-ne0, then-gains-q-ne0}
 
--- what was found, with this code
-found : (c : Joined-gains-q-ne0) → c.if-gains-q-ne0.found ≡ (not (eqb (get_or c.args.gains.now (node c.args.q c.loop-k.k) 0) 0) || c.loop-k.found)
-found c = elim c.if-gains-q-ne0.branch [ then-gains-q-ne0 w ↦ w.found-is ∙ rw (ne_eqb _ _ w.if-gains-q-ne0.true) | else-gains-q-ne0 w ↦ w.found-is ∙ rw (eq-eqb _ _ w.if-gains-q-ne0.false) ]
+or_swap : (a b : Bool) → (a || b) ≡ (b || a)
+or_swap true true = refl
+or_swap true false = refl
+or_swap false true = refl
+or_swap false false = refl
 
-pub loop-k-init : goal.loop-k-init
+any_of_first : (p : ℕ → Bool) (xs : List ℕ) (n : ℕ) → n ≤ length xs → list_any p (take n xs) ≡ any n (λ k. p (get_or xs k 0))
 unfolding any
-loop-k-init c = (omega arith, refl)
+any_of_first p xs zero h = refl
+any_of_first p xs (suc n) h =
+    let l : n < length xs = omega arith in
+    let r = any_of_first p xs n (omega arith) in
+    ap (λ (m : ℕ). list_any p (take m xs)) (sym (add-one n)) ∙ list_any_more p xs n 0 l ∙ or_swap (list_any p (take n xs)) (p (get_or xs n 0)) ∙ ap (λ (b : Bool). p (get_or xs n 0) || b) r
 
-pub loop-k-preserved : goal.loop-k-preserved
-unfolding any
-loop-k-preserved c =
-    let l = c.loop-k in
-    (omega arith, found c ∙ rw (add-one l.k, l.invariant.1))
+abbrev counts : ℕ → Bool
+counts gain = not (eqb gain 0)
 
 pub returns : goal.returns
+unfolding any
 returns c =
-    let e : c.loop-k.k ≡ c.args.q = omega arith in
-    rw e at c.loop-k.invariant.1
+    let q = c.args.q in
+    let a = c.args.gains.now in
+    let m : 2 * q - 1 - (q - 1) ≡ q = omega arith in
+    let l : q ≤ length (drop (q - 1) a) = omega (arith, length-drop (q - 1) a) in
+    any_from_yields_List {all = take (2 * q - 1 - (q - 1)) (drop (q - 1) a)} counts _ _ _ c.any.ensures.ran (YieldsList-from_slice _ cc) (λ x b f k. search rules)
+    ∙ ap (λ (n : ℕ). list_any counts (take n (drop (q - 1) a))) m
+    ∙ any_of_first counts (drop (q - 1) a) q l
+    ∙ (λ j. any q (λ k. counts (get_or-drop (q - 1) a k 0 j)))

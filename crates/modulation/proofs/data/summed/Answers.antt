@@ -1,5 +1,5 @@
 -- `summed` meets its contract: five levels, each at most twice as large as the one before and a gain. Assumes nothing.
-use mathlib.Core.Path.{refl, ap}
+use mathlib.Core.Path.{ap}
 use native.Mathlib.Omega.{arith}
 use Rattle.complex.specs.Fits.{Bound}
 use Rattle.complex.proofs.Bounds.{bound_more, bound_zeros}
@@ -21,19 +21,19 @@ size_2 : (c : After-climbed-x2) → Bound 983025 c.climbed-x2.result
 size_2 c = c.climbed-x2.ensures.size 458745 (omega arith) (size_4 c.before.before)
 
 pub climbed-x16-requires : goal.climbed-x16-requires
-climbed-x16-requires c = (refl, ap (λ (l : OpenLevels). l.q16) c.requires.0, c.requires.1, bound_zeros 983025)
+climbed-x16-requires c = (ap (λ (l : OpenLevels). l.q16) c.requires.0, c.requires.1, bound_zeros 983025)
 
 pub climbed-x8-requires : goal.climbed-x8-requires
-climbed-x8-requires c = (refl, ap (λ (l : OpenLevels). l.q8) c.requires.0, c.requires.1, bound_more (size_16 (goal.at.climbed-x8-requires c).After-climbed-x16) 983025 (omega arith))
+climbed-x8-requires c = (ap (λ (l : OpenLevels). l.q8) c.requires.0, c.requires.1, bound_more (size_16 (goal.at.climbed-x8-requires c).After-climbed-x16) 983025 (omega arith))
 
 pub climbed-x4-requires : goal.climbed-x4-requires
-climbed-x4-requires c = (refl, ap (λ (l : OpenLevels). l.q4) c.requires.0, c.requires.1, bound_more (size_8 (goal.at.climbed-x4-requires c).After-climbed-x8) 983025 (omega arith))
+climbed-x4-requires c = (ap (λ (l : OpenLevels). l.q4) c.requires.0, c.requires.1, bound_more (size_8 (goal.at.climbed-x4-requires c).After-climbed-x8) 983025 (omega arith))
 
 pub climbed-x2-requires : goal.climbed-x2-requires
-climbed-x2-requires c = (refl, ap (λ (l : OpenLevels). l.q2) c.requires.0, c.requires.1, bound_more (size_4 (goal.at.climbed-x2-requires c).After-climbed-x4) 983025 (omega arith))
+climbed-x2-requires c = (ap (λ (l : OpenLevels). l.q2) c.requires.0, c.requires.1, bound_more (size_4 (goal.at.climbed-x2-requires c).After-climbed-x4) 983025 (omega arith))
 
 pub climbed-requires : goal.climbed-requires
-climbed-requires c = (refl, ap (λ (l : OpenLevels). l.q1) c.requires.0, c.requires.1, size_2 (goal.at.climbed-requires c).After-climbed-x2)
+climbed-requires c = (ap (λ (l : OpenLevels). l.q1) c.requires.0, c.requires.1, size_2 (goal.at.climbed-requires c).After-climbed-x2)
 
 pub returns : goal.returns
 returns c =

@@ -17,25 +17,24 @@ loop-i-init c = (omega arith, refl)
 pub times-requires : goal.times-requires
 times-requires c =
     let p = c.requires.bound in
-    let x : Both 100000 c.value_at.result = rw c.value_at.ensures (value_both p.0 p.1 _) in
-    let w : Both 1 c.value_at-w.result = rw c.value_at-w.ensures (value_both p.2 p.3 _) in
-    product_fits x w tt tt
+    let w : Both 1 c.at.result = rw c.at.ensures (value_both p.0 p.1 _) in
+    product_fits c.chip.ensures.size w tt tt
 
 pub plus-sum-requires : goal.plus-sum-requires
 plus-sum-requires c =
     let p = c.requires.bound in
     let l = c.loop-i in
-    let h : Both 3200000 l.sum = rw l.invariant.1 (multiplied_sum_both p.0 p.1 p.2 p.3 _ _ (omega arith)) in
-    let x : Both 100000 c.value_at.result = rw c.value_at.ensures (value_both p.0 p.1 _) in
-    let w : Both 1 c.value_at-w.result = rw c.value_at-w.ensures (value_both p.2 p.3 _) in
-    let g : Both 200000 c.times.result = rw c.times.ensures (both-⊗ x w) in
+    let f = c.args.field.now in
+    let h : Both 3200000 l.sum = rw l.invariant.1 (multiplied_sum_both f.re_bound f.im_bound p.0 p.1 _ _ (omega arith)) in
+    let w : Both 1 c.at.result = rw c.at.ensures (value_both p.0 p.1 _) in
+    let g : Both 200000 c.times.result = rw c.times.ensures (both-⊗ c.chip.ensures.size w) in
     both_fits (both-⊕ h g) tt
 
 pub loop-i-preserved : goal.loop-i-preserved
 unfolding multiplied_sum
 loop-i-preserved c =
     let l = c.loop-i in
-    let term = c.times.ensures ∙ ap₂ ◌⊗◌ c.value_at.ensures c.value_at-w.ensures in
+    let term = c.times.ensures ∙ ap₂ ◌⊗◌ c.chip.ensures.is c.at.ensures in
     (omega arith, c.plus-sum.ensures ∙ ap₂ ◌⊕◌ l.invariant.1 term ∙ sym (Σ_more l.i _))
 
 pub returns : goal.returns

@@ -5,4 +5,4 @@ use Rattle.read.specs.Multipliers.{multiplied_sum}
 use Rattle.read.proofs.reading.reading.Given as goal
 
 abbrev pub invariant-loop-i : goal.invariant-loop-i
-invariant-loop-i l = (l.i ≤ l.q) × l.sum ≡ multiplied_sum (value l.re l.im) (value l.wre l.wim) l.from l.i
+invariant-loop-i l = (l.i ≤ l.q) × l.sum ≡ multiplied_sum (value l.field.re.now l.field.im.now) (value l.w.re l.w.im) l.from l.i

@@ -9,7 +9,7 @@ use mir.Facts.{to_z-of_z}
 use Rattle.complex.proofs.Integers.{negsuc_zero_*ℤ, pos_one_*ℤ}
 use Rattle.complex.proofs.Machine.{neg_asks, neg_gives}
 use Rattle.complex.proofs.Sizes.{fits_within, within_neg}
-use Rattle.read.proofs.Lanes.{minus_sign, plus_sign}
+use Rattle.read.proofs.Signs.{minus_sign, plus_sign}
 use Rattle.read.proofs.signed.signed.Goals as goal
 use Rattle.read.proofs.signed.signed.Goals.{Start}
 

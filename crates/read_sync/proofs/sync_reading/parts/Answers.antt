@@ -16,13 +16,13 @@ use Rattle.codes.specs.PackedSigns.{packed}
 use Rattle.codes.specs.SyncCodes.{a, b}
 use Rattle.analyser_parts.specs.PartSums.{signed_sum}
 use Rattle.analyser_parts.proofs.Products.{held}
-use Rattle.read_sync.specs.Shares.{half_sum}
+use Rattle.read_sync.specs.Shares.{half_sum, sum_with_signs}
 use Rattle.read_sync.proofs.Halves.{by_a, by_b, half_sum_within}
 use Rattle.read_sync.proofs.sync_reading.parts.Goals as goal
-use Rattle.read_sync.proofs.sync_reading.parts.Goals.{After-half_sum-last}
+use Rattle.read_sync.proofs.sync_reading.parts.Goals.{After-signed_sum-last}
 
 -- the two sums, as the locals hold them
-module _ (c : After-half_sum-last) where
+module _ (c : After-signed_sum-last) where
   abbrev from : ℕ
   from = c.loop-m.m * 16
 
@@ -35,50 +35,50 @@ module _ (c : After-half_sum-last) where
   row_is : c.a_row-row.result ≡ packed a
   row_is = c.a_row-row.ensures
 
-  first_is : to_z w32 (of_z w32 c.half_sum-first.result) ≡ first
+  first_is : to_z w32 (of_z w32 c.signed_sum-first.result) ≡ first
+  unfolding half_sum
   first_is =
-      let f : SFits w32 c.half_sum-first.result = search rules in
-      to_z-of_z f ∙ c.half_sum-first.ensures ∙ ap (λ (r : ℕ). half_sum c.args.x.now from r 0) row_is
+      let f : SFits w32 c.signed_sum-first.result = search rules in
+      to_z-of_z f ∙ c.signed_sum-first.ensures ∙ ap (λ (r : ℕ). sum_with_signs 8 c.args.x.now from r 0) row_is
 
-  last_is : to_z w32 (of_z w32 c.half_sum-last.result) ≡ last
+  last_is : to_z w32 (of_z w32 c.signed_sum-last.result) ≡ last
+  unfolding half_sum
   last_is =
-      let f : SFits w32 c.half_sum-last.result = search rules in
-      to_z-of_z f ∙ c.half_sum-last.ensures ∙ ap (λ (r : ℕ). half_sum c.args.x.now (from + 8) r 8) row_is
+      let f : SFits w32 c.signed_sum-last.result = search rules in
+      to_z-of_z f ∙ c.signed_sum-last.ensures ∙ ap (λ (r : ℕ). sum_with_signs 8 c.args.x.now (from + 8) r 8) row_is
 
-  first_within : Within 800000 (to_z w32 (of_z w32 c.half_sum-first.result))
+  first_within : Within 800000 (to_z w32 (of_z w32 c.signed_sum-first.result))
   first_within = held first_is (half_sum_within c.requires.1 _ _ _)
 
-  last_within : Within 800000 (to_z w32 (of_z w32 c.half_sum-last.result))
+  last_within : Within 800000 (to_z w32 (of_z w32 c.signed_sum-last.result))
   last_within = held last_is (half_sum_within c.requires.1 _ _ _)
+
+  sum : SFits w32 (to_z w32 (of_z w32 c.signed_sum-first.result) +ℤ to_z w32 (of_z w32 c.signed_sum-last.result))
+  sum = fits_within (within_add first_within last_within) tt
+
+  difference : SFits w32 (to_z w32 (of_z w32 c.signed_sum-first.result) -ℤ to_z w32 (of_z w32 c.signed_sum-last.result))
+  difference = fits_within (within_sub first_within last_within) tt
 
 pub loop-m-init : goal.loop-m-init
 unfolding listed
 loop-m-init c = (omega arith, refl, refl)
 
-pub plus-s-requires : goal.plus-s-requires
-plus-s-requires c = fits_within (within_add (first_within c) (last_within c)) tt
+pub overflow_add-y : goal.overflow_add-y
+overflow_add-y c = sum (goal.at.overflow_add-y c).After-signed_sum-last
 
-pub less-d-requires : goal.less-d-requires
-less-d-requires c =
-    let place = (goal.at.less-d-requires c).After-half_sum-last in
-    let f = first_within place in
-    let l = last_within place in
-    let one_way = fits_within (within_sub f l) {w = w32} tt in
-    let other_way = fits_within (within_sub l f) {w = w32} tt in
-    search rules
+pub overflow_sub-z : goal.overflow_sub-z
+overflow_sub-z c = difference (goal.at.overflow_sub-z c).After-signed_sum-last
 
 pub loop-m-preserved : goal.loop-m-preserved
 loop-m-preserved c =
-    let place = (goal.at.loop-m-preserved c).After-half_sum-last in
+    let place = (goal.at.loop-m-preserved c).After-signed_sum-last in
     let l = c.loop-m in
     let x = c.args.x.now in
-    let f : SFits w32 c.plus-s.result = search rules in
-    let g : SFits w32 c.less-d.result = search rules in
-    let sum = to_z-of_z f ∙ c.plus-s.ensures ∙ (λ i. first_is place i +ℤ last_is place i) ∙ sym (by_a x (l.m * 16)) in
-    let difference = to_z-of_z g ∙ c.less-d.ensures ∙ (λ i. first_is place i -ℤ last_is place i) ∙ sym (by_b x (l.m * 16)) in (
+    let s = to_z-of_z (sum place) ∙ (λ i. first_is place i +ℤ last_is place i) ∙ sym (by_a x (l.m * 16)) in
+    let d = to_z-of_z (difference place) ∙ (λ i. first_is place i -ℤ last_is place i) ∙ sym (by_b x (l.m * 16)) in (
       omega arith,
-      (λ j. set (l.invariant.1 j) l.m (sum j)) ∙ one_more_written (λ k. signed_sum x (k * 16) (packed a)) _ l.m (omega arith),
-      (λ j. set (l.invariant.2 j) l.m (difference j)) ∙ one_more_written (λ k. signed_sum x (k * 16) (packed b)) _ l.m (omega arith),
+      (λ j. set (l.invariant.1 j) l.m (s j)) ∙ one_more_written (λ k. signed_sum x (k * 16) (packed a)) _ l.m (omega arith),
+      (λ j. set (l.invariant.2 j) l.m (d j)) ∙ one_more_written (λ k. signed_sum x (k * 16) (packed b)) _ l.m (omega arith),
     )
 
 pub returns : goal.returns

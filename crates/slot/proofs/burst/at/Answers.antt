@@ -4,12 +4,12 @@ use mathlib.Core.Option.{Option, some}
 use Prim.Native.Nat.{ℕ, ◌+◌, ◌*◌, ◌-◌, ◌/◌, ◌≤◌, ◌<◌}
 use native.Mathlib.Omega.{arith}
 use borrow.Author.Tests.{not-true, not-false}
+use Rattle.complex.specs.Buffers.{block_of}
 use Rattle.complex.specs.declared.Complex.{Complex}
 use Rattle.complex.specs.Fits.{Bound}
 use Rattle.codes.specs.Burst.{burst}
-use Rattle.modulation.specs.declared.Block.{Block}
-use Rattle.modulation.specs.SixteenChips.{block_of}
-use Rattle.modulation.proofs.Blocks.{block_bound, block_cong}
+use Rattle.complex.specs.declared.Block.{Block}
+use Rattle.complex.proofs.Blocks.{block_bound, block_cong}
 use Rattle.slot.specs.Setup.{SyncSetup}
 use Rattle.slot.specs.Slot.{sync_chip}
 use Rattle.slot.specs.View.{view_sync}

@@ -1,24 +1,19 @@
--- `write_silence` meets its contract. The loop's invariant: the first i entries of the part are written. Assumes nothing.
-use mathlib.Core.Path.{refl, ◌∙◌}
+-- `write_silence` meets its contract: the value over and over, entry by entry. Assumes nothing.
+use mathlib.Core.Path.{◌≡◌, sym, ◌∙◌}
+use Prim.Native.Nat.{ℕ, ◌<◌}
 use native.Mathlib.Omega.{arith}
 use lib.IntN.{pos}
-use lib.ListN.{set, length-set}
+use lib.ListN.{replicate, length-replicate}
+use lib.Seq.{ext_get_or}
+use Rattle.std.proofs.lemmas.List.{get_or-replicate}
 use Rattle.complex.specs.Buffers.{listed}
-use Rattle.complex.proofs.Lists.{one_more_written}
-use Rattle.slot.proofs.Pieces.{filled}
+use Rattle.complex.proofs.Lists.{length_listed, listed_at}
 use Rattle.slot.proofs.field.write_silence.Goals as goal
 
-pub loop-i-init : goal.loop-i-init
-unfolding listed
-loop-i-init c = (omega arith, refl, refl)
-
-pub loop-i-preserved : goal.loop-i-preserved
-loop-i-preserved c =
-    let l = c.loop-i in
-    (omega arith, simp length-set l.invariant.1, (λ j. set (l.invariant.2 j) l.i (pos 0)) ∙ one_more_written (λ j. pos 0) _ l.i (omega arith))
-
-pub shape_of-part : goal.shape_of-part
-shape_of-part c = c.loop-i.invariant.1
+zeros_are : (n : ℕ) → replicate n (pos 0) ≡ listed n (λ i. pos 0)
+zeros_are n =
+    ext_get_or (pos 0) _ _ (length-replicate n (pos 0) ∙ sym (length_listed _ n))
+    (λ i k. let l : i < n = omega (arith, length-replicate n (pos 0)) in get_or-replicate n i (pos 0) (pos 0) l ∙ sym (listed_at (λ i. pos 0) (pos 0) n i l))
 
 pub returns : goal.returns
-returns c = filled _ _ c.args.part.now _ c.loop-i.invariant.2 (omega arith)
+returns c = c.fill.ensures.after (λ y h. h) ∙ zeros_are _

@@ -1,4 +1,5 @@
 -- `clear_leaves` meets its contract. The loops' invariant: the entries passed are kept or cleared, by their leaf. Assumes nothing.
+use Rattle.std.proofs.Common.{rules}
 use mathlib.Core.Path.{◌≡◌}
 use Prim.Native.Nat.{◌+◌, ◌*◌, ◌%◌}
 use native.Mathlib.Nat.{add-zero}
@@ -10,7 +11,7 @@ use Rattle.tables.proofs.pairs.clear_leaves.Invariants.{kept}
 use Rattle.tables.proofs.pairs.clear_leaves.Goals as goal
 
 pub loop-m-init : goal.loop-m-init
-loop-m-init c = (omega arith, c.all-1.given.0.1, none_passed _ _)
+loop-m-init c = (omega arith, search rules, none_passed _ _)
 
 pub loop-i-init : goal.loop-i-init
 loop-i-init c = (omega arith, c.loop-m.invariant.1, λ old b. rw (add-zero (16 * c.loop-m.m)) b)
@@ -39,4 +40,4 @@ unfolding cleared
 returns c =
     let l = c.loop-m in
     let e : 16 * l.m ≡ 2208 = omega arith in
-    (all_entries l.invariant.1 (all_passed _ (rw e at l.invariant.2)), c.all-1.given.0.1)
+    (all_entries l.invariant.1 (all_passed _ (rw e at l.invariant.2)), search rules)

@@ -1,4 +1,5 @@
 -- `put_pairs` meets its contract. The loop's invariant: the first i entries of the part are written. Assumes nothing.
+use Rattle.std.proofs.Common.{rules}
 use mathlib.Core.Path.{◌≡◌}
 use native.Mathlib.Omega.{arith}
 use lib.ListN.{length-set}
@@ -7,7 +8,7 @@ use Rattle.tables.proofs.Entries.{part, all_entries, no_part, one_more_in_part}
 use Rattle.tables.proofs.pairs.put_pairs.Goals as goal
 
 pub loop-i-init : goal.loop-i-init
-loop-i-init c = (omega arith, c.all-1.given.0.1, no_part _ _ _)
+loop-i-init c = (omega arith, search rules, no_part _ _ _)
 
 pub loop-i-preserved : goal.loop-i-preserved
 loop-i-preserved c =

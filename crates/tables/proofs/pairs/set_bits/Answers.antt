@@ -11,19 +11,19 @@ use Rattle.tables.proofs.pairs.set_bits.Goals as goal
 use Rattle.tables.proofs.pairs.set_bits.Goals.{After-width-w, In-loop-m}
 
 -- the code's part of a block
-inside : (c : After-width-w) → let w = c.width-w.result in (0 < w) × (c.args.k * w + w ≤ 16)
-inside c = rw c.width-w.ensures (pairs_in_block c.args.q c.args.k c.requires.0 c.requires.1)
+inside : (c : After-width-w) → let w = c.width-w.result in (0 < w) × (c.args.code.k * w + w ≤ 16)
+inside c = rw c.width-w.ensures (pairs_in_block c.args.code.q c.args.code.k c.args.code.factor c.args.code.below)
 
 -- a turn takes pairs that are among the first 2,208
 enough : (c : In-loop-m) → let w = c.width-w.result in c.loop-m.m * w + w ≤ 2208
 enough c =
     let w = c.width-w.result in
     let l : c.loop-m.m + 1 ≤ 138 = omega arith in
-    let i : (0 < w) × (c.args.k * w + w ≤ 16) = rw c.width-w.ensures (pairs_in_block c.args.q c.args.k c.requires.0 c.requires.1) in
+    let i : (0 < w) × (c.args.code.k * w + w ≤ 16) = rw c.width-w.ensures (pairs_in_block c.args.code.q c.args.code.k c.args.code.factor c.args.code.below) in
     omega (arith, mul-le-mul_right w l, i.1)
 
 pub overflow_mul-from : goal.overflow_mul-from
-overflow_mul-from c = omega (arith, inside c)
+overflow_mul-from c = omega (arith, inside (goal.at.overflow_mul-from c).After-width-w)
 
 pub loop-m-init : goal.loop-m-init
 loop-m-init c = (omega arith, λ l. absurd (omega arith), no_block _ _ _ _)
@@ -36,7 +36,7 @@ overflow_mul-m-in-loop-m c = omega (arith, enough (goal.at.overflow_mul-m-in-loo
 
 pub put_part-requires : goal.put_part-requires
 put_part-requires c =
-    (omega (arith, inside (goal.at.put_part-requires c).After-width-w), enough (goal.at.put_part-requires c).In-loop-m, c.requires.2, c.requires.3)
+    (omega (arith, inside (goal.at.put_part-requires c).After-width-w), enough (goal.at.put_part-requires c).In-loop-m, c.requires.0, c.requires.1)
 
 pub loop-m-preserved : goal.loop-m-preserved
 loop-m-preserved c =

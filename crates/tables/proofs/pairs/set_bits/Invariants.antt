@@ -6,4 +6,4 @@ use Rattle.tables.proofs.Entries.{Became, blocks}
 use Rattle.tables.proofs.pairs.set_bits.Given as goal
 
 abbrev pub invariant-loop-m : goal.invariant-loop-m
-invariant-loop-m l = (l.m ≤ 138) × (0 < l.m → length l.pairs ≡ 2208) × Became (blocks l.w l.k (pair l.bits) l.m) l.initial.pairs l.pairs
+invariant-loop-m l = (l.m ≤ 138) × (0 < l.m → length l.pairs ≡ 2208) × Became (blocks l.w l.fn.code.k (pair l.bits) l.m) l.initial.pairs l.pairs

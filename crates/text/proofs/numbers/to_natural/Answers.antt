@@ -1,43 +1,40 @@
--- `to_natural` meets its contract. The loop's invariant: the digits that are left, written after those of v, write the number of w.
-use Rattle.std.proofs.Common.{◌≡◌, ℕ, ◌+◌, ◌-◌, ◌*◌, ◌<◌, ◌≤◌, cond, List, ◌∷◌, length, get_or, drop, sym, ◌∙◌, add-one, arith, drop_of_length-le, drop-cons}
+-- `to_natural` meets its contract: by the byte at hand.
+use Rattle.std.proofs.Common.{◌≡◌, ◌+◌, ◌∙◌, sym, ap, arith, length, drop}
+use Rattle.std.proofs.lemmas.Grind.{common_steps}
 use lib.Seq.{drop-length}
-use Rattle.text.specs.Decimal.{is_digit, natural_in}
-use Rattle.text.proofs.Digits.{read_after, natural_read, read_past, read_all, read_other, read_digit}
+use Rattle.text.proofs.Digits.{read_after, natural_read, read_past, read_all, read_other, read_digit, read_past_ten, read_next}
 use Rattle.text.proofs.numbers.to_natural.Goals as goal
 
--- the byte at i, and those after it
-next : (w : List ℕ) (v i : ℕ) → i < length w → natural_in w ≡ read_after v (drop i w) → natural_in w ≡ read_after v (get_or w i 0 ∷ drop (i + 1) w)
-next w v i h e = e ∙ rw (add-one i, drop-cons w i 0 h)
+pub loop-b-init : goal.loop-b-init
+loop-b-init c = (omega arith, omega arith, natural_read c.args.w.now (grind (arith, common_steps)))
 
--- past the digit at i
-past : (w : List ℕ) (v i d : ℕ) → i < length w → natural_in w ≡ read_after v (drop i w)
-    → d ≡ cond (is_digit (get_or w i 0)) (get_or w i 0 - 48) 10 → d ≤ 9 → natural_in w ≡ read_after (v * 10 + d) (drop (i + 1) w)
-past w v i d h e r l = next w v i h e ∙ read_digit v _ d _ r l
+pub returns-in_err-checked_mul : goal.returns-in_err-checked_mul
+returns-in_err-checked_mul c =
+    let l = c.loop-b in
+    c.from_residual.ensures ∙ sym (read_next _ l.v l.b-index (omega arith) l.invariant.2 ∙ read_past_ten l.v _ _ (omega (arith, c.in_err-checked_mul.ensures)))
 
-pub returns-then-w-eq0 : goal.returns-then-w-eq0
-returns-then-w-eq0 c = rw (drop_of_length-le c.args.w.now {i = 0} (omega arith))
+pub returns-in_err-digit : goal.returns-in_err-digit
+returns-in_err-digit c =
+    let l = c.loop-b in
+    c.from_residual-in_err-digit.ensures ∙ sym (read_next _ l.v l.b-index (omega arith) l.invariant.2 ∙ read_other l.v _ _ c.in_err-digit.ensures)
 
-pub loop-i-init : goal.loop-i-init
-loop-i-init c = (omega arith, omega arith, natural_read c.args.w.now (omega arith))
+pub returns-in_err-v : goal.returns-in_err-v
+returns-in_err-v c =
+    let l = c.loop-b in
+    c.from_residual-in_err-v.ensures
+    ∙ sym (read_next _ l.v l.b-index (omega arith) l.invariant.2 ∙ read_digit l.v _ _ _ c.in_ok-digit.ensures ∙ read_past _ _ (omega (arith, c.in_err-v.ensures, c.in_ok-checked_mul.ensures, c.from.ensures)))
 
-pub returns-then-d-gt9 : goal.returns-then-d-gt9
-returns-then-d-gt9 c =
-    let l = c.loop-i in
-    sym (next c.args.w.now l.v l.i (omega arith) l.invariant.2 ∙ read_other l.v _ c.digit-d.result _ c.digit-d.ensures c.if-d-gt9.true)
-
-pub returns-then-v-gt4294967295 : goal.returns-then-v-gt4294967295
-returns-then-v-gt4294967295 c =
-    let l = c.loop-i in
-    sym (past c.args.w.now l.v l.i c.digit-d.result (omega arith) l.invariant.2 c.digit-d.ensures c.if-d-gt9.false ∙ read_past _ _ c.if-v-gt4294967295.true)
-
-pub loop-i-preserved : goal.loop-i-preserved
-loop-i-preserved c =
-    let l = c.loop-i in
-    (omega arith, omega arith, past c.args.w.now l.v l.i c.digit-d.result (omega arith) l.invariant.2 c.digit-d.ensures c.if-d-gt9.false)
+pub loop-b-preserved : goal.loop-b-preserved
+loop-b-preserved c =
+    let l = c.loop-b in (
+      omega arith,
+      omega (arith, c.in_ok-v.ensures),
+      read_next _ l.v l.b-index (omega arith) l.invariant.2 ∙ read_digit l.v _ _ _ c.in_ok-digit.ensures ∙ ap (λ n. read_after n (drop (l.b-index + 1) c.args.w.now)) (omega (arith, c.in_ok-v.ensures, c.in_ok-checked_mul.ensures, c.from.ensures)),
+    )
 
 pub returns : goal.returns
 returns c =
-    let l = c.loop-i in
+    let l = c.loop-b in
     let w = c.args.w.now in
-    let e : l.i ≡ length w = omega arith in
+    let e : l.b-index ≡ length w = omega arith in
     sym (l.invariant.2 ∙ rw (e, drop-length w, read_all l.v l.invariant.1))

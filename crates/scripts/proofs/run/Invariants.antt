@@ -1,5 +1,0 @@
--- It ends: its turns are counted down.
-use Rattle.scripts.proofs.run.Given as goal
-
-abbrev pub decreases-loop-turns : goal.decreases-loop-turns
-decreases-loop-turns l = l.turns

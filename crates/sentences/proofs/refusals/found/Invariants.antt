@@ -1,6 +1,0 @@
--- It ends: with each turn fewer bytes are left.
-use Rattle.std.proofs.Common.{◌-◌, length}
-use Rattle.sentences.proofs.refusals.found.Given as goal
-
-abbrev pub decreases-loop-at : goal.decreases-loop-at
-decreases-loop-at l = length l.table - l.at
