@@ -1,5 +1,5 @@
 -- What a call's refusal tests say of its answer and bench, and of the numbers that they let pass. Assumes nothing.
-use Rattle.std.proofs.Common.{◌≡◌, sym, ap, subst, refl, ℕ, ◌≤◌, List, [], ◌∷◌, ◌++◌, Bool, true, false, Result, Ok, Err, is_ok}
+use Rattle.std.proofs.Common.{◌≡◌, sym, ap, ◌∙◌, subst, refl, ℕ, ◌≤◌, List, [], ◌∷◌, ◌++◌, Bool, true, false, Result, Ok, Err, is_ok}
 use mathlib.Core.Bool.{not, cond, ◌&&◌}
 use borrow.Author.Tests.{lt-ltb, leb-false, not-false}
 use lib.Dec.{T, leb, leb→le}
@@ -7,6 +7,7 @@ use mir.Facts.{and_yes}
 use Rattle.codes.specs.Refusals.{Answer, refused, gives, RefusalRule, ◌if◌, ◌otherwise◌, outcome}
 use Rattle.std.specs.Prelude.{MatchResult}
 use Rattle.codes.specs.Tree.{is_spreading_factor}
+use Rattle.codes.specs.CodeRefusals.{code_refusals}
 use Rattle.codes.specs.declared.tree.Code.{Code}
 use Rattle.codes.proofs.Factors.{factor_range}
 use Rattle.codes.proofs.Refused.{Passed}
@@ -62,6 +63,18 @@ module _ (rs : List RefusalRule) (code : Code) (Q k : ℕ) (e : IsFound rs code 
 
   pub after_tests : {A : Type 0} (a : A) (qs : List RefusalRule) → (rs ++ qs) otherwise a ≡ qs otherwise a
   after_tests a qs = after_passed a rs qs (all_passed (Q, k) rs e).0
+
+-- what a list of refusals answers to the numbers Q and k
+abbrev pub code_answer : List RefusalRule → ℕ → ℕ → Answer (ℕ × ℕ)
+code_answer rs Q k = rs otherwise (Q, k)
+
+-- a call of a code whose first tests are 3 and 4: the others decide
+module _ (Q k : ℕ) (code : Code) (e : IsFound (code_refusals Q k) code Q k) (qs : List RefusalRule) where
+  pub refused_later : {n : ℕ} → code_answer qs Q k ≡ refused n → refused n ≡ code_answer (code_refusals Q k ++ qs) Q k
+  refused_later h = sym (after_tests (code_refusals Q k) code Q k e _ qs ∙ h)
+
+  pub given_later : ◌≡◌ {A = Answer (ℕ × ℕ)} (code_answer qs Q k) (gives (Q, k)) → IsFound (code_refusals Q k ++ qs) code Q k
+  given_later h = found (code_refusals Q k) code Q k e ∙ sym (after_tests (code_refusals Q k) code Q k e _ qs ∙ h)
 
 -- ---- what 3 and 4 let pass
 pub good_code : (Q k : ℕ) → not (is_spreading_factor Q) ≡ false → leb Q k ≡ false → IsCode Q k
