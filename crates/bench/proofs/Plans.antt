@@ -38,19 +38,19 @@ next_from : ℕ → List Channel → Answer (List ℕ) → AnswerAt (List ℕ)
 next_from place cs a = elim a [ refused n ↦ refused_at n place | gives next ↦ gains_from (suc place) next cs ]
 
 module _ (ys : List Channel) (i : ℕ) (g : List ℕ) where
-  pub one_more : (d : Channel) → i < length ys → (code : Code) → let c = get_or ys i d in IsFound (tests g c) code c.q c.k
+  pub one_opened : (d : Channel) → i < length ys → (code : Code) → let c = get_or ys i d in IsFound (tests g c) code c.q c.k
       → gains_from (i + 1) (set g (node code.q code.k) c.gain) (drop (i + 1) ys) ≡ gains_from i g (drop i ys)
   unfolding gains_from next_from
-  one_more d l code e = rw (add-one i, drop-cons ys i d l) (sym (ap (next_from i (drop (suc i) ys)) (opened g (get_or ys i d) code e)))
+  one_opened d l code e = rw (add-one i, drop-cons ys i d l) (sym (ap (next_from i (drop (suc i) ys)) (opened g (get_or ys i d) code e)))
 
   pub one_failed : (d : Channel) (n : ℕ) → i < length ys → let c = get_or ys i d in ◌≡◌ {A = Answer (ℕ × ℕ)} (refused n) (tests g c otherwise (c.q, c.k))
       → refused_at n i ≡ gains_from i g (drop i ys)
   unfolding gains_from next_from
   one_failed d n l e = rw (drop-cons ys i d l) (sym (ap (next_from i (drop (suc i) ys)) (failed g (get_or ys i d) e)))
 
-  pub all_taken : length ys ≤ i → loads g ≡ gains_from i g (drop i ys)
+  pub none_left : length ys ≤ i → loads g ≡ gains_from i g (drop i ys)
   unfolding gains_from
-  all_taken l = rw (drop_of_length-le ys {i = i} l)
+  none_left l = rw (drop_of_length-le ys {i = i} l)
 
 -- ---- open's refusals look at the gains alone
 refusals_in_gains : (s t : Settings) → s.gains ≡ t.gains → (Q k g : ℕ) → open_refusals (view s) Q k g ≡ open_refusals (view t) Q k g
@@ -110,3 +110,33 @@ walked_in_order b g len place (c ∷ cs) = go (gains_after g c) refl (λ g' l. w
 pub plan_settled : (b : Bench) (plan : List Channel) → settled b (gains_of plan) ≡ load_plan_call b plan
 unfolding with_open_cleared any is_leaf_open
 plan_settled b plan = walked_in_order b (replicate 31 0) refl 0 plan
+
+-- ---- the same of what the records before i came to, refused or not
+-- the record c at `place`, unless one before it failed
+abbrev pub with_record : AnswerAt (List ℕ) → ℕ → Channel → AnswerAt (List ℕ)
+with_record (refused_at n at) place c = refused_at n at
+with_record (loads g) place c = elim (gains_after g c) [ refused n ↦ refused_at n place | gives next ↦ loads next ]
+
+-- record after record, the first of them at `place`
+abbrev pub with_records : AnswerAt (List ℕ) → ℕ → List Channel → AnswerAt (List ℕ)
+with_records (refused_at n at) place cs = refused_at n at
+with_records (loads g) place cs = gains_from place g cs
+
+-- the record at i, then those after it, are those from i on
+pub one_more : (t : AnswerAt (List ℕ)) (ys : List Channel) (i : ℕ) (d : Channel) {r : AnswerAt (List ℕ)} → i < length ys → r ≡ with_record t i (get_or ys i d)
+    → with_records r (i + 1) (drop (i + 1) ys) ≡ with_records t i (drop i ys)
+unfolding gains_from
+one_more (refused_at n at) ys i d l e = rw e refl
+one_more (loads g) ys i d l e = rw (add-one i, e, drop-cons ys i d l) (step (gains_after g (get_or ys i d)))
+  where
+    step : (a : Answer (List ℕ))
+        → with_records (elim a [ refused n ↦ refused_at n i | gives next ↦ loads next ]) (suc i) (drop (suc i) ys)
+        ≡ elim a [ refused n ↦ refused_at n i | gives next ↦ gains_from (suc i) next (drop (suc i) ys) ]
+    step (refused n) = refl
+    step (gives next) = refl
+
+-- after the last record, what was taken settles to load plan
+pub all_taken : (b : Bench) (t : AnswerAt (List ℕ)) (ys : List Channel) (i : ℕ) → length ys ≤ i → with_records t i (drop i ys) ≡ with_records (loads (replicate 31 0)) 0 ys
+    → settled b t ≡ load_plan_call b ys
+all_taken b (refused_at n at) ys i l e = ap (settled b) e ∙ plan_settled b ys
+all_taken b (loads g) ys i l e = ap (settled b) (none_left ys i g l ∙ e) ∙ plan_settled b ys

@@ -23,12 +23,16 @@ use Rattle.codes.specs.PackedSigns.{packed, sign_bit}
 use Rattle.codes.specs.SyncCodes.{a, a_signs}
 use Rattle.analyser_parts.specs.PartSums.{primary_sum, signed_sum}
 use Rattle.analyser_parts.proofs.Correlations.{primary_from}
+use Rattle.analyser_parts.proofs.Products.{held}
 use Rattle.find.specs.Finding.{size_from}
 use Rattle.find.specs.PeakSearch.{four_of, size_of}
 
 -- what a local holds that was read from a list
 pub read_is : {z : ℤ} → Within 6400000 z → to_z w32 (of_z w32 z) ≡ z
 read_is h = to_z-of_z {w = w32} (fits_within h tt)
+
+pub read_within : {z : ℤ} → Within 6400000 z → Within 6400000 (to_z w32 (of_z w32 z))
+read_within h = held (read_is h) h
 
 -- ---- a step's sum of four, as the locals hold it: it fits, and which it is
 abbrev local : ℤ → ℤ

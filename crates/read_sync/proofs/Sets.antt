@@ -1,11 +1,11 @@
 -- A code set has four rows of the allocation table: its leader. Assumes nothing.
-use mathlib.Core.Path.{◌≡◌, refl, ◌∙◌, subst}
+use mathlib.Core.Path.{◌≡◌, refl, ap, ◌∙◌, subst}
 use mathlib.Core.Logic.{◌≢◌}
 use mathlib.Core.Bool.{Bool, ◌&&◌}
 use Prim.Native.Nat.{ℕ, zero, suc, ◌+◌, ◌*◌, ◌<◌}
 use native.Mathlib.Omega.{arith}
 use mir.Facts.{and_yes}
-use lib.Dec.{T, eqb, eqb→eq, ltb, ltb→lt}
+use lib.Dec.{T, eqb, eqb→eq, ltb, ltb→lt, lit<}
 use lib.IntN.{ℤ, pos, neg_ℤ, nat_abs, ◌-ℤ◌, ◌*ℤ◌}
 use Rattle.complex.specs.declared.Complex.{Complex}
 use Rattle.complex.specs.Arithmetic.{real, 𝟎, 𝟏, 𝐣, ◌⊗◌, conj}
@@ -19,9 +19,11 @@ use Rattle.codes.proofs.Tests.{each_at, same, same→eq}
 use Rattle.read_sync.specs.SyncReading.{candidate}
 use Rattle.read_sync.specs.declared.case.Case.{Case}
 use Rattle.read_sync.specs.declared.case.Case.TheVariants.{One, Two}
+use Rattle.read_sync.specs.declared.sync_reading.Leader.{Leader}
 use Rattle.read_sync.specs.Cases.{set_count}
 use Rattle.read_sync.specs.Shares.{share_of, shares_of}
-use Rattle.read_sync.specs.Leaders.{leader_in_row, leader_of_row, leader_of_signs, Leads, SmallSet}
+use Rattle.read_sync.specs.Leaders.{leader_in_row, leader_of_row, leader_of_signs, leader_or_later, Leads, SmallSet}
+use Rattle.read_sync.proofs.Leaders.{leads_cong, leads_joined}
 use Rattle.read_sync.proofs.Rows.{codes, row_leads}
 
 sends : ℕ → Complex → ModulatedCode → Bool
@@ -45,7 +47,7 @@ small_sets : T (each 4 small_set)
 unfolding each small_set code_set
 small_sets = tt
 
-set_small : (n : ℕ) → n < 4 → SmallSet (code_set (1 + n))
+pub set_small : (n : ℕ) → n < 4 → SmallSet (code_set (1 + n))
 unfolding small_set
 set_small n h =
     let s = code_set (1 + n) in
@@ -53,7 +55,7 @@ set_small n h =
     let b = and_yes (ltb s.b 16) _ a.1 in
     record { a = ltb→lt s.a 16 a.0; b = ltb→lt s.b 16 b.0; d = ltb→lt s.d 16 b.1 }
 
-row_small : (q : ℕ) (s : CodeSet) → q < 4 → SmallSet s → ((allocation_row q s).first < 16) × ((allocation_row q s).second < 16) × ((allocation_row q s).marker < 16)
+pub row_small : (q : ℕ) (s : CodeSet) → q < 4 → SmallSet s → ((allocation_row q s).first < 16) × ((allocation_row q s).second < 16) × ((allocation_row q s).marker < 16)
 unfolding allocation_row
 row_small zero s l h = (h.a, h.b, h.d)
 row_small (suc zero) s l h = (h.a, h.b, h.d)
@@ -129,3 +131,20 @@ module _ (d : ℕ → Complex) (case n : ℕ) (h : case < 3) (g : n < 2 * case) 
       subst (λ (x : ℕ). Leads (λ k. shares_of d (codes case (x + k))) 8 (leader_in_row case d w)) place
       (subst (Leads (λ k. shares_of d (codes case (8 * (4 * n + q) + k))) 8) (λ i. leader_of_row case (leader_of_signs (first_is i)) (leader_of_signs (second_is i)) (leader_of_signs (marker-is i)))
       (row_leads d case (4 * n + q) h (omega arith)))
+
+  abbrev score_at : ℕ → ℤ
+  score_at k = shares_of d (codes case (32 * n + k))
+
+  abbrev in_row : ℕ → Leader
+  in_row q = leader_in_row case d (allocation_row q set)
+
+  -- the four rows, one after the other
+  pub set_leads : Leads score_at 32 (leader_or_later (leader_or_later (leader_or_later (in_row 0) 8 (in_row 1)) 16 (in_row 2)) 24 (in_row 3))
+  set_leads =
+      let s : ℕ → ℤ = λ j. shares_of d (codes case j) in
+      let first : Leads score_at 8 (in_row 0) = leads_cong (λ k. s (32 * n + 8 * 0 + k)) score_at 8 _ (λ k _. let e : 32 * n + 8 * 0 + k ≡ 32 * n + k = omega arith in ap s e) (row_of_set 0 (lit< tt)) in
+      leads_joined s (32 * n) 24 8 _ _
+      (leads_joined s (32 * n) 16 8 _ _
+      (leads_joined s (32 * n) 8 8 _ _ first (row_of_set 1 (lit< tt)))
+      (row_of_set 2 (lit< tt)))
+      (row_of_set 3 (lit< tt))

@@ -1,4 +1,6 @@
 // The words of a line after its call's name, as numbers.
+ghost use Rattle.std.specs.Prelude.{◌<◌, length};
+
 use crate::commands::Part;
 use crate::faults::Fault;
 use codes::CellParameter;
@@ -61,8 +63,8 @@ impl<'a> Arguments<'a> {
         let Some(word) = self.words.next() else {
             return Ok(None);
         };
-        if word.contains(&b',') {
-            return Ok(Some(in_one_word(word).ok_or(Fault::NoChip(word))?));
+        if let Some(comma) = word.iter().position(|b| *b == b',') {
+            return Ok(Some(in_one_word(word, comma).ok_or(Fault::NoChip(word))?));
         }
         let re = component(word)?;
         let im = component(self.words.next().ok_or(Fault::Missing)?)?;
@@ -79,10 +81,11 @@ fn component<'a>(word: &'a [u8]) -> Result<i32, Fault<'a>> {
 }
 
 // A chip as `show` tells it: re, a comma, im.
-fn in_one_word(word: &[u8]) -> Option<Complex> {
-    let mut parts = word.splitn(2, |b| *b == b',').map(to_component);
+fn in_one_word(word: &[u8], comma: usize) -> Option<Complex>
+    requires { comma < length word.now }
+{
     Some(Complex {
-        re: parts.next()??,
-        im: parts.next()??,
+        re: to_component(&word[..comma])?,
+        im: to_component(&word[comma + 1..])?,
     })
 }

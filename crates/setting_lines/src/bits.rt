@@ -2,6 +2,7 @@
 use script::arguments::Arguments;
 use script::faults::Fault;
 use script::noise::Generator;
+use text::numbers;
 
 // A code has at most 4,416 bits; one more is too many for each.
 pub const ROOM: usize = 4417;
@@ -60,7 +61,7 @@ impl<'a> Bits<'a> {
 fn written<'a>(word: &'a [u8]) -> Option<Bits<'a>> {
     let count = word
         .iter()
-        .position(|b| !b.is_ascii_digit())
+        .position(|b| numbers::digit(*b).is_none())
         .unwrap_or(word.len());
     let (digits, end) = word.split_at(count);
     let follows = match end {
@@ -74,7 +75,7 @@ fn written<'a>(word: &'a [u8]) -> Option<Bits<'a>> {
 
 // What a digit counts.
 fn value(digit: &u8) -> u8 {
-    digit.wrapping_sub(b'0')
+    numbers::digit(*digit).unwrap_or(0)
 }
 
 // As many bits as there is room for.

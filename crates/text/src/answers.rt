@@ -42,11 +42,11 @@ impl Answers {
         self.write_all(digits.format(x).as_bytes())
     }
 
-    // Two numbers with a comma between, after a blank where one is due. Room is made first, so that no part can fail: std's errors are large, and a
-    // Result for each part took longer than the part.
+    // Two numbers with a comma between, after a blank where one is due. Where there is room for the longest, no part can fail: std's errors are large,
+    // and a Result for each part took longer than the part.
     pub fn pair(&mut self, blank: bool, x: i32, y: i32) -> Result<()> {
         if self.used > ROOM - LONGEST_PAIR {
-            self.empty()?;
+            return self.parted(blank, x, y);
         }
         if blank {
             self.put(b" ");
@@ -77,6 +77,17 @@ impl Answers {
         self.to.write_all(&self.bytes[..self.used])?;
         self.used = 0;
         Ok(())
+    }
+
+    // The same where there may be no room for all of it: what is full goes out first, as with every other answer.
+    #[cold]
+    fn parted(&mut self, blank: bool, x: i32, y: i32) -> Result<()> {
+        if blank {
+            self.byte(b' ')?;
+        }
+        self.number(x)?;
+        self.byte(b',')?;
+        self.number(y)
     }
 
     // Writes a text that there is no room for as a whole.

@@ -4,7 +4,7 @@ use mir.Facts.{Fits-below}
 use Rattle.bench.specs.BenchCalls.{fresh_settings}
 use Rattle.bench.specs.Changes.{with_gains}
 use Rattle.bench.proofs.Accepted.{all_passed, gain_range}
-use Rattle.bench.proofs.Plans.{all_taken, one_failed, one_more, tests}
+use Rattle.bench.proofs.Plans.{none_left, one_failed, one_opened, tests}
 use Rattle.bench.proofs.plan.gains_of.Goals as goal
 
 pub loop-place-init : goal.loop-place-init
@@ -14,7 +14,7 @@ pub loop-place-preserved : goal.loop-place-preserved
 loop-place-preserved c =
     let l = c.loop-place in
     rw c.with_gain-gains.ensures
-    (one_more c.args.plan.now l.place l.gains _ c.loop-place-test.true c.in-Ok.code (c.in-Ok.ensures (with_gains fresh_settings l.gains) refl) ∙ l.invariant)
+    (one_opened c.args.plan.now l.place l.gains _ c.loop-place-test.true c.in-Ok.code (c.in-Ok.ensures (with_gains fresh_settings l.gains) refl) ∙ l.invariant)
 
 pub overflow_cast-c : goal.overflow_cast-c
 overflow_cast-c c =
@@ -29,4 +29,4 @@ returns-in-Err c =
     one_failed c.args.plan.now l.place l.gains _ _ c.loop-place-test.true (c.in-Err.ensures (with_gains fresh_settings l.gains) refl) ∙ l.invariant
 
 pub returns : goal.returns
-returns c = let l = c.loop-place in all_taken c.args.plan.now l.place l.gains c.loop-place-test.false ∙ l.invariant
+returns c = let l = c.loop-place in none_left c.args.plan.now l.place l.gains c.loop-place-test.false ∙ l.invariant
