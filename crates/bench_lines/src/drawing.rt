@@ -45,6 +45,7 @@ impl State {
         ensures state { self.new ≡ after_draw self.old (draw_call self.old.bench n m) }
         ensures answer { told result ≡ draw_answer self.old (draw_call self.old.bench n m) }
         ensures err { OnErr result (self.new ≡ self.old) }
+        ensures undone { OnErr result (memory.new ≡ memory.old) }
     {
         let mut re = [0; 2560];
         let mut im = [0; 2560];

@@ -2,6 +2,7 @@
 #![tactic(auto)]
 
 ghost use Rattle.std.specs.Prelude.{◌≡◌, OnErr};
+ghost use Rattle.recording_lines.specs.Contents.{contents};
 
 use bench::Bench;
 use recording_lines::Recording;
@@ -26,7 +27,8 @@ impl State {
         command: Command<'a>,
         m: &mut Memory,
     ) -> Result<LineAnswer, Fault<'a>>
-        ensures { OnErr result (self.new ≡ self.old) }
+        ensures state { OnErr result (self.new ≡ self.old) }
+        ensures memory { OnErr result (contents self.old.recording m.new ≡ contents self.old.recording m.old) }
     {
         match command {
             Command::Nothing => Ok(LineAnswer::Nothing),

@@ -1,5 +1,6 @@
 // Chips of one's own, and silence, to the end of the recording.
 ghost use Rattle.std.specs.Prelude.{◌≡◌, OnErr};
+ghost use Rattle.recording_lines.specs.Contents.{contents};
 
 use crate::Recording;
 use complex::Complex;
@@ -14,7 +15,8 @@ impl Recording {
         chips: Arguments<'a>,
         m: &mut Memory,
     ) -> Result<LineAnswer, Fault<'a>>
-        ensures { OnErr result (self.new ≡ self.old) }
+        ensures state { OnErr result (self.new ≡ self.old) }
+        ensures memory { contents self.old m.new ≡ contents self.old m.old }
     {
         let count = self.put(chips, m)?;
         if count == 0 {
@@ -24,7 +26,9 @@ impl Recording {
     }
 
     // Puts the chips of a line behind the recording's last one, and answers how many there are. By their places, which say where the room ends.
-    fn put<'a>(&self, mut chips: Arguments<'a>, m: &mut Memory) -> Result<usize, Fault<'a>> {
+    fn put<'a>(&self, mut chips: Arguments<'a>, m: &mut Memory) -> Result<usize, Fault<'a>>
+        ensures { contents self.now m.new ≡ contents self.now m.old }
+    {
         for place in self.chips..RECORDING {
             match chips.chip()? {
                 Some(z) => m.recording.set(place, z),
@@ -35,7 +39,8 @@ impl Recording {
     }
 
     pub fn silence<'a>(&mut self, count: usize, m: &mut Memory) -> Result<LineAnswer, Fault<'a>>
-        ensures { OnErr result (self.new ≡ self.old) }
+        ensures state { OnErr result (self.new ≡ self.old) }
+        ensures memory { OnErr result (m.new ≡ m.old) }
     {
         let from = self.chips;
         let answer = self.grow(count)?;

@@ -2,6 +2,7 @@
 #![tactic(auto)]
 
 ghost use Rattle.std.specs.Prelude.{◌≡◌, OnErr};
+ghost use Rattle.recording_lines.specs.Contents.{contents};
 
 use script::answer::LineAnswer;
 use script::commands::RecordingCall;
@@ -28,7 +29,8 @@ impl Recording {
         call: RecordingCall<'a>,
         m: &mut Memory,
     ) -> Result<LineAnswer, Fault<'a>>
-        ensures { OnErr result (self.new ≡ self.old) }
+        ensures state { OnErr result (self.new ≡ self.old) }
+        ensures memory { OnErr result (contents self.old m.new ≡ contents self.old m.old) }
     {
         match call {
             RecordingCall::Record { chips } => self.record(chips, m),

@@ -1,4 +1,7 @@
 // The bits of a load: a word of digits, which may say how they go on up to the code's count, or bits of the generator.
+ghost use Rattle.std.specs.Prelude.{◌≡◌, ◌-◌, if◌then◌else◌};
+ghost use Rattle.text.specs.Decimal.{is_digit};
+
 use script::arguments::Arguments;
 use script::faults::Fault;
 use script::noise::Generator;
@@ -44,8 +47,12 @@ impl<'a> Bits<'a> {
         };
         let bits = &mut room[..count.min(ROOM)];
         match self {
-            Bits::Written(digits, Follows::Again) => fill(bits, digits.iter().cycle().map(value)),
-            Bits::Written(digits, _) => fill(bits, digits.iter().map(value)),
+            Bits::Written(digits, follows) => {
+                fill(bits, digits.iter().map(value));
+                if let Follows::Again = follows {
+                    repeat(bits, digits.len());
+                }
+            }
             Bits::Random(seed) => {
                 let mut generator = Generator::new(seed);
                 for bit in bits.iter_mut() {
@@ -73,8 +80,10 @@ fn written<'a>(word: &'a [u8]) -> Option<Bits<'a>> {
     Some(Bits::Written(digits, follows))
 }
 
-// What a digit counts.
-fn value(digit: &u8) -> u8 {
+// What a digit counts; 0 for any other byte.
+fn value(digit: &u8) -> u8
+    ensures { result ≡ (if is_digit digit.now then digit.now - 48 else 0) }
+{
     numbers::digit(*digit).unwrap_or(0)
 }
 
@@ -84,5 +93,16 @@ fn fill<I: Iterator<Item = u8>>(room: &mut [u8], bits: I)
 {
     for (place, bit) in room.iter_mut().zip(bits) {
         *place = bit;
+    }
+}
+
+// The first n bits over and over: what stands is copied behind itself, so that each digit is counted once.
+fn repeat(bits: &mut [u8], n: usize) {
+    let mut done = n.min(bits.len());
+    // Each turn doubles what stands: from one bit on thirteen fill the room.
+    for _ in 0..13 {
+        let more = done.min(bits.len() - done);
+        bits.copy_within(0..more, done);
+        done += more;
     }
 }

@@ -79,7 +79,7 @@ impl Answers {
         Ok(())
     }
 
-    // The same where there may be no room for all of it: what is full goes out first, as with every other answer.
+    // The same by parts, where there may be no room for all of it: the buffer goes out when it is full, as with every other answer.
     #[cold]
     fn parted(&mut self, blank: bool, x: i32, y: i32) -> Result<()> {
         if blank {
